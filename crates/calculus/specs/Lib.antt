@@ -1,0 +1,3 @@
+pub mod Types
+pub mod Terms
+pub mod Typing
