@@ -5,6 +5,7 @@ mod headings;
 mod machines;
 mod reasons;
 mod strides;
+mod walks;
 
 pub use addition::Addition;
 pub use addition::AdditionMachine;
@@ -19,3 +20,5 @@ pub use reasons::ReasonEq;
 pub use reasons::ReasonPartialEq;
 pub use strides::Stride;
 pub use strides::StrideMachine;
+pub use walks::Probe;
+pub use walks::Walk;
