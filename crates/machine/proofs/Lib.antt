@@ -6,3 +6,4 @@ pub mod Going
 pub mod Whole
 pub mod Answering
 pub mod Listing
+pub mod Counted
