@@ -48,7 +48,7 @@ loop-call-holds g c =
     let probes = c .in-Continue-probes .ensures tt .made in
     let rooms = c .in-Continue-rooms .ensures tt in
     (answers .1 .0, answers .1 .1, omega (arith, probes .1 .0), probes .1 .1, omega (arith, c .into-iter-rooms .ensures .len, rooms .0), rw (c .into-iter-rooms .ensures .rest) (rooms .1),
-     λ o h r. ran-begun o h (λ (p : Probe). p .sum) (vec-items (c .in-Continue-probes .probes)) (probes .0) r)
+     λ o h r. ran-begun o h (λ (p : Probe). p .sum .value) (vec-items (c .in-Continue-probes .probes)) (probes .0) r)
 
 pub loop-call-again : need.loop-call-again
 loop-call-again g c =
