@@ -1,1 +1,4 @@
 pub mod Labels
+pub mod Network
+pub mod Derivations
+pub mod Examples
