@@ -1,1 +1,4 @@
 pub mod Programs
+pub mod Names
+pub mod Made
+pub mod Ends

@@ -36,10 +36,10 @@ made (pair t u) i = (Multiplexer, 0) ∷ (made t i ++ made u (i + iterators t))
 made (split x y t u) i = (Multiplexer, 0) ∷ (made t i ++ made u (i + iterators t))
 made (iter t u v) i =
     let s = suc i + iterators t in
-    let own = made t (suc i) in
+    let count = made t (suc i) in
     let step = made u s ++ transfers i (free u) in
     let base = made v (s + iterators u) ++ transfers i (free v) in
-    (Iterator, 0) ∷ ((LeftCounter, 0) ∷ ((RightCounter, 0) ∷ ((Multiplexer, 0) ∷ (own ++ (step ++ base)))))
+    (Iterator, 0) ∷ ((LeftCounter, 0) ∷ ((RightCounter, 0) ∷ ((Multiplexer, 0) ∷ (count ++ (step ++ base)))))
 
 -- the ports of node k
 abbrev pub l1 : ℕ → ℕ
@@ -91,12 +91,15 @@ wires (app t u) k r e = (r, l2 k) ∷ (wires t (suc k) (l1 k) e ++ wires u (suc 
 wires (pair t u) k r e = (r, l1 k) ∷ (wires t (suc k) (l2 k) e ++ wires u (suc k + nodes t) (l3 k) e)
 wires (split x y t u) k r e = wires t (suc k) (l1 k) e ++ wires u (suc k + nodes t) r (put (put e x (l2 k)) y (l3 k))
 wires (iter t u v) k r e =
-    let s = 4 + k + nodes t in
+    let c = suc k in
+    let c′ = suc c in
+    let m = suc c′ in
+    let s = suc m + nodes t in
     let b = s + nodes u + length (free u) in
-    let own = (r, l2 k) ∷ ((l3 k, l2 (1 + k)) ∷ ((l1 (1 + k), l1 (2 + k)) ∷ ((l3 (2 + k), l2 (3 + k)) ∷ ((l3 (1 + k), l3 (3 + k)) ∷ [])))) in
-    let count = wires t (4 + k) (l1 k) e in
-    let step = crossings (free u) (s + nodes u) e ++ wires u s (l1 (3 + k)) (entered (free u) (s + nodes u) e) in
-    let base = crossings (free v) (b + nodes v) e ++ wires v b (l2 (2 + k)) (entered (free v) (b + nodes v) e) in
+    let own = (r, l2 k) ∷ ((l3 k, l2 c) ∷ ((l1 c, l1 c′) ∷ ((l3 c′, l2 m) ∷ ((l3 c, l3 m) ∷ [])))) in
+    let count = wires t (suc m) (l1 k) e in
+    let step = crossings (free u) (s + nodes u) e ++ wires u s (l1 m) (entered (free u) (s + nodes u) e) in
+    let base = crossings (free v) (b + nodes v) e ++ wires v b (l2 c′) (entered (free v) (b + nodes v) e) in
     own ++ (count ++ (step ++ base))
 
 -- the node with another link at a port
