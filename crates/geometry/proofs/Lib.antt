@@ -2,3 +2,8 @@ pub mod Programs
 pub mod Names
 pub mod Made
 pub mod Ends
+pub mod Owned
+pub mod Joins
+pub mod Wired
+pub mod Nodes
+pub mod Soundness

@@ -1,5 +1,5 @@
 // The network of a term, and the theorems about it: it is sound, and its ports are typed.
-ghost use Rattle.geometry.specs.Theorems.{NamesAreFree, SameNames, NoneTwice};
+ghost use Rattle.geometry.specs.Theorems.{NamesAreFree, SameNames, NoneTwice, NetworksAreSound};
 ghost use Rattle.geometry.specs.Examples.{WrittenOut, PremisesMet};
 
 /// The context of a derivation lists the term's free variables in order of occurrence; in a closed derivation no context has one twice.
@@ -7,6 +7,12 @@ pub fn names_are_free()
     ensures free { λ _. ⌜ NamesAreFree ⌝ }
     ensures same { λ _. ⌜ SameNames ⌝ }
     ensures once { λ _. ⌜ NoneTwice ⌝ }
+{
+}
+
+/// The network of every closed program of type N is sound.
+pub fn network_is_sound()
+    ensures { λ _. ⌜ NetworksAreSound ⌝ }
 {
 }
 

@@ -1,6 +1,5 @@
 use mathlib.Core.Path.{sym, _∙_}
 use Rattle.geometry.proofs.Names.{names-free, everywhere}
-use Rattle.geometry.proofs.Ends.{counted}
 use Rattle.geometry.proofs.names_are_free.Needs as need
 
 pub returns : need.returns
