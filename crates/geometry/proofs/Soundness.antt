@@ -12,11 +12,11 @@ use Rattle.cells.specs.Sound.{Has, Valued, Mutual, Sound}
 use Rattle.calculus.specs.Types.{Ty, N}
 use Rattle.calculus.specs.Terms.{Term, iterators, nodes}
 use Rattle.calculus.specs.Typing.{Typed}
-use Rattle.geometry.specs.Network.{Made, made, bare, allMade, allWires, nowhere, wired, network}
+use Rattle.geometry.specs.Network.{Made, made, Wire, Kept, bare, allMade, allWires, nowhere, network}
 use Rattle.geometry.proofs.Made.{Each, made-each, made-length, every-number}
 use Rattle.geometry.proofs.Ends.{ends, ports, counted}
 use Rattle.geometry.proofs.Owned.{Owns, once, never, at-most, owns, owns-bound}
-use Rattle.geometry.proofs.Joins.{Joined, turned, ended, ended-twice, joined}
+use Rattle.geometry.proofs.Joins.{Joined, fore, back, later, turned, ended, ended-twice, joined}
 use Rattle.geometry.proofs.Wired.{Bears, bears-length, wired-at, wired-apart, bare-absent}
 use Rattle.geometry.proofs.Nodes.{bears-network, each-at, each-kind, has-owns, owns-has}
 
@@ -26,6 +26,21 @@ network-length t = omega (arith, bears-length (network t) (allMade t) (bears-net
 -- the wires of a closed program end once at each port that a node has, and nowhere else
 pub all-counted : (p : ℕ) {t : Term} {A : Ty} (d : Typed [] t A) → ends p (allWires t) ≡ ports p 0 (allMade t)
 all-counted p d = omega (arith, counted p d tt 1 1 0 nowhere)
+
+-- a wire of the network is found again at both its ends
+joined-kept : {t : Term} {A : Ty} (d : Typed [] t A) {p q : ℕ} → Joined p q (allWires t) → link (network t) p ≡ q
+unfolding network
+joined-kept {t} d {p} l =
+    let one = at-most p (allMade t) in
+    let h = owns p (allMade t) (omega (arith, all-counted p d, ended l)) in
+    wired-at l (omega (arith, all-counted p d, one)) (map bare (allMade t)) (omega (arith, owns-bound (allMade t) p h, length-map (allMade t) bare))
+
+pub wires-kept : {t : Term} {A : Ty} (d : Typed [] t A) → Kept (network t) (allWires t)
+wires-kept {t} d = go (allWires t) (λ p q l. l)
+  where
+    go : (ws : List Wire) → ((p q : ℕ) → Joined p q ws → Joined p q (allWires t)) → Kept (network t) ws
+    go [] f = tt
+    go (w ∷ ws) f = (joined-kept d (f (w .0) (w .1) (fore refl refl)), joined-kept d (f (w .1) (w .0) (back refl refl)), go ws (λ p q l. f p q (later l)))
 
 -- the wire at a port that a node has, and the links that it leaves
 pub record Met (t : Term) (p : ℕ) : Type 0 where
@@ -37,20 +52,18 @@ pub record Met (t : Term) (p : ℕ) : Type 0 where
   pub apart : far ≡ p → ⊥
 
 pub met : {t : Term} {A : Ty} (d : Typed [] t A) (p : ℕ) → Owns (allMade t) p → Met t p
-unfolding network
 met {t} d p h =
     let one = once p (allMade t) h in
     let j = joined p (allWires t) (omega (arith, all-counted p d, one)) in
     let q = j .0 in
     let l = j .1 in
     let g = owns q (allMade t) (omega (arith, all-counted q d, ended (turned l))) in
-    let s = length-map (allMade t) bare in
     record {
       far = q;
       wire = l;
       has-far = g;
-      forth = wired-at l (omega (arith, all-counted p d, one)) (map bare (allMade t)) (omega (arith, owns-bound (allMade t) p h, s));
-      home = wired-at (turned l) (omega (arith, all-counted q d, at-most q (allMade t))) (map bare (allMade t)) (omega (arith, owns-bound (allMade t) q g, s));
+      forth = joined-kept d l;
+      home = joined-kept d (turned l);
       apart = λ e. omega (arith, ended-twice l (sym e), all-counted p d, one);
     }
 

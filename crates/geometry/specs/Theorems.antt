@@ -1,17 +1,19 @@
 -- What is proved of the network of a term. Assumes nothing.
 use mathlib.Core.Path.{_≡_}
-use mathlib.Core.List.{List, [], _∷_, map}
+use mathlib.Core.List.{List, [], _++_, map}
 use Prim.Native.Nat.{ℕ, _+_, _*_, _<_, _≤_}
-use lib.ListN.{length}
+use lib.ListN.{length, drop}
 use Rattle.std.specs.declared.option.Option.the-variants.{Some}
 use Rattle.cells.specs.declared.kinds.Kind.the-variants.{Number}
-use Rattle.cells.specs.Ports.{Node, nodeAt, nodesOf}
+use Rattle.cells.specs.declared.kinds.Cell.{Cell}
+use Rattle.cells.specs.Ports.{nodeAt, nodesOf}
 use Rattle.cells.specs.Sound.{Sound}
 use Rattle.calculus.specs.Types.{Ty, N}
 use Rattle.calculus.specs.Terms.{Term, free, successors, iterators, nodes}
 use Rattle.calculus.specs.Typing.{Ctx, Typed, weight, tallest}
 use Rattle.geometry.specs.Labels.{Labelled, networkWeight, successorNodes, NoHigher, AllPlain}
-use Rattle.geometry.specs.Network.{network, cellOf}
+use Rattle.geometry.specs.Network.{Env, EachVariable, wires, Kept, allMade, allWires, network, cellOf}
+use Rattle.geometry.specs.Memory.{laid, wiredCells}
 use Rattle.geometry.specs.Derivations.{names, Distinct, Everywhere, NumbersWithin, label}
 
 -- a context lists the free variables in order of occurrence, so all derivations of a term have the same ones
@@ -32,6 +34,18 @@ NodesCounted = (t : Term) → length (network t) ≡ 1 + nodes t
 -- a network written into memory and read again is itself
 abbrev pub ReadBack : Type 0
 ReadBack = (t : Term) → nodesOf (map cellOf (network t)) ≡ network t
+
+-- the links of a closed program's network are its wires: none is written over another
+abbrev pub LinksAreWires : Type 0
+LinksAreWires = (t : Term) (A : Ty) → Typed [] t A → Kept (network t) (allWires t)
+
+-- what a term is wired to depends on where its free variables start, and on those alone
+abbrev pub WiresAreLocal : Type 0
+WiresAreLocal = (t : Term) (k r : ℕ) (e f : Env) → EachVariable (λ x. e x ≡ f x) (free t) → wires t k r e ≡ wires t k r f
+
+-- with cells enough, memory that is laid and wired begins with the network, and the rest of it is untouched
+abbrev pub MemoryHolds : Type 0
+MemoryHolds = (t : Term) (cs : List Cell) → 1 + nodes t ≤ length cs → wiredCells (allWires t) (laid (allMade t) 0 cs) ≡ map cellOf (network t) ++ drop (1 + nodes t) cs
 
 -- the network of a closed program of type N is sound, if its ports can be numbered and its iterators have numbers up to 64
 abbrev pub NetworksAreSound : Type 0

@@ -1,7 +1,7 @@
 // The network of a term, and the theorems about it: it is sound, and its ports are typed.
 // Nothing here runs: each function stands for the theorem that its contract states.
 ghost use Rattle.geometry.specs.Theorems.{NamesAreFree, SameNames, NoneTwice};
-ghost use Rattle.geometry.specs.Theorems.{NodesCounted, SuccessorsCounted, NumbersKept, ReadBack};
+ghost use Rattle.geometry.specs.Theorems.{NodesCounted, SuccessorsCounted, NumbersKept, LinksAreWires, WiresAreLocal, MemoryHolds, ReadBack};
 ghost use Rattle.geometry.specs.Theorems.{NetworksAreSound, PortsAreTyped, WeightIsKept, PlainKinds};
 ghost use Rattle.geometry.specs.Examples.{WrittenOut, PremisesMet};
 
@@ -21,9 +21,17 @@ pub fn nodes_are_counted()
 {
 }
 
-/// A network written into cells is seen in them again.
-pub fn cells_read_back()
-    ensures { λ _. ⌜ ReadBack ⌝ }
+/// The links of a closed program's network are its wires; those of a term depend on where its free variables start, and on nothing else.
+pub fn links_are_wires()
+    ensures kept { λ _. ⌜ LinksAreWires ⌝ }
+    ensures local { λ _. ⌜ WiresAreLocal ⌝ }
+{
+}
+
+/// Memory in which the nodes are laid and then wired begins with the network, the rest untouched; a step sees the network there.
+pub fn memory_holds_network()
+    ensures written { λ _. ⌜ MemoryHolds ⌝ }
+    ensures seen { λ _. ⌜ ReadBack ⌝ }
 {
 }
 
