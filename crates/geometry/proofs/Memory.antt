@@ -1,16 +1,16 @@
 -- Memory that is laid and wired begins with the network.
-use mathlib.Core.Path.{_≡_, refl, sym, ap, subst, _∙_}
+use mathlib.Core.Path.{_≡_, refl, sym, ap, _∙_}
 use mathlib.Core.List.{List, [], _∷_, _++_, map}
-use Prim.Native.Nat.{ℕ, zero, suc, _+_, _*_, _/_, _%_, _<_, _≤_}
+use Prim.Native.Nat.{ℕ, suc, _+_, _*_, _/_, _%_, _<_, _≤_}
 use native.Mathlib.Omega.{arith}
-use lib.ListN.{length, getD, set, drop, length-append, length-map}
+use lib.ListN.{length, getD, set, drop, length-append, length-map, length-set}
 use Rattle.std.proofs.shelf.Lists.{append-assoc, set-at, set-append-left, getD-append-left, getD-map, map-set}
 use Rattle.cells.specs.declared.kinds.Port.{Port}
 use Rattle.cells.specs.declared.kinds.Port.the-variants.{First, Second, Third}
 use Rattle.cells.specs.declared.kinds.Cell.{Cell}
 use Rattle.cells.specs.Ports.{Node, blank, offset, placeOf, nodeAt}
 use Rattle.calculus.specs.Terms.{Term, free, nodes}
-use Rattle.geometry.specs.Network.{Made, made, Wire, EachVariable, relinked, linkTo, wired, bare, allMade, nowhere, allWires, network, numberOf, cellOf}
+use Rattle.geometry.specs.Network.{Made, Wire, EachVariable, relinked, linkTo, wired, bare, allMade, nowhere, allWires, network, cellOf}
 use Rattle.geometry.specs.Memory.{noCell, laid, linkCell, wiredCells}
 use Rattle.geometry.proofs.Made.{made-length}
 use Rattle.geometry.proofs.Wired.{place-offset, linkTo-length}
@@ -26,6 +26,26 @@ laid-after ks (m ∷ ms) [] k e h = absurd (omega arith)
 laid-after ks (m ∷ ms) (c ∷ cs) k e h =
     let x = cellOf (bare m) in
     rw (set-at ks c cs x k e, ← (append-assoc ks (x ∷ []) cs)) (laid-after (ks ++ (x ∷ [])) ms cs (suc k) (omega (arith, length-append ks (x ∷ []))) (omega arith) ∙ append-assoc ks (x ∷ []) (bareCells ms ++ drop (length ms) cs))
+
+-- in parts
+pub laid-append : (l m : List Made) (k j : ℕ) (cs : List Cell) → j ≡ k + length l → laid (l ++ m) k cs ≡ laid m j (laid l k cs)
+laid-append [] m k j cs e = let z : k ≡ j = omega arith in rw z refl
+laid-append (x ∷ l) m k j cs e = laid-append l m (suc k) j _ (omega arith)
+
+pub laid-length : (ms : List Made) (k : ℕ) (cs : List Cell) → length (laid ms k cs) ≡ length cs
+laid-length [] k cs = refl
+laid-length (m ∷ ms) k cs = laid-length ms (suc k) _ ∙ length-set cs k (cellOf (bare m))
+
+pub wiredCells-append : (v w : List Wire) (cs : List Cell) → wiredCells (v ++ w) cs ≡ wiredCells w (wiredCells v cs)
+wiredCells-append [] w cs = refl
+wiredCells-append (x ∷ v) w cs = wiredCells-append v w _
+
+linkCell-length : (cs : List Cell) (p q : ℕ) → length (linkCell cs p q) ≡ length cs
+linkCell-length cs p q = length-set cs (p / 3) _
+
+pub wiredCells-length : (ws : List Wire) (cs : List Cell) → length (wiredCells ws cs) ≡ length cs
+wiredCells-length [] cs = refl
+wiredCells-length (w ∷ ws) cs = wiredCells-length ws _ ∙ (linkCell-length (linkCell cs (w .0) (w .1)) (w .1) (w .0) ∙ linkCell-length cs (w .0) (w .1))
 
 -- the cell with another link at a port
 relinkedCell : Cell → ℕ → ℕ → Cell

@@ -1,14 +1,14 @@
 -- The network of a closed program is sound.
-use mathlib.Core.Path.{_≡_, refl, sym, ap, subst, _∙_}
+use mathlib.Core.Path.{_≡_, refl, sym, _∙_}
 use mathlib.Core.List.{List, [], _∷_, map}
-use Prim.Native.Nat.{ℕ, zero, suc, _+_, _*_, _/_, _%_, _<_, _≤_}
+use Prim.Native.Nat.{ℕ, zero, suc, _+_, _*_, _/_, _<_, _≤_}
 use native.Mathlib.Omega.{arith}
 use lib.ListN.{length, length-map}
-use Rattle.std.specs.declared.option.Option.the-variants.{Some, None}
+use Rattle.std.specs.declared.option.Option.the-variants.{Some}
 use Rattle.cells.specs.declared.kinds.Kind.{Kind}
 use Rattle.cells.specs.declared.kinds.Kind.the-variants.{Root, Number, Successor, Multiplexer, Iterator, LeftCounter, RightCounter, Transfer}
 use Rattle.cells.specs.Ports.{Node, nodeAt, link, absent}
-use Rattle.cells.specs.Sound.{Has, Valued, Mutual, Sound}
+use Rattle.cells.specs.Sound.{Valued, Sound}
 use Rattle.calculus.specs.Types.{Ty, N}
 use Rattle.calculus.specs.Terms.{Term, iterators, nodes}
 use Rattle.calculus.specs.Typing.{Typed}
@@ -98,6 +98,7 @@ root-valued (n ∷ ns) ms b e = (b .0, roots, values)
     roots : (k : ℕ) → nodeAt (n ∷ ns) k .kind ≡ Some Root → k ≡ 0
     roots zero h = refl
     roots (suc k) h = absurd (one-root ns ms (b .2) e k h)
+
     values : (k : ℕ) → k < length (n ∷ ns) → (κ : Kind) × (nodeAt (n ∷ ns) k .kind ≡ Some κ) × Valued κ (nodeAt (n ∷ ns) k .value)
     values zero h = (Root, b .0, b .1)
     values (suc k) h = let a = each-at Proper ns ms (b .2) e k (omega arith) in (a .0, a .1, a .2 .1)
@@ -112,11 +113,11 @@ sound t d s i =
       one-root = r .1;
       kinds = r .2;
       linked = λ p h.
-        let m = met d p (has-owns (network t) (allMade t) b p h) in
-        record {
-          there = rw (m .forth) (owns-has (network t) (allMade t) b z (m .far) (m .has-far));
-          back = rw (m .forth) (m .home);
-          other = λ e. m .apart (sym (m .forth) ∙ e);
-        };
+          let m = met d p (has-owns (network t) (allMade t) b p h) in
+          record {
+            there = rw (m .forth) (owns-has (network t) (allMade t) b z (m .far) (m .has-far));
+            back = rw (m .forth) (m .home);
+            other = λ e. m .apart (sym (m .forth) ∙ e);
+          };
       unlinked = λ p l h. unmet d p (omega (arith, bears-length (network t) (allMade t) b)) (λ o. h (owns-has (network t) (allMade t) b z p o));
     }
