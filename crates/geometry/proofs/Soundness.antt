@@ -73,23 +73,30 @@ unfolding network
 unmet {t} d p l h = wired-apart p (allWires t) (map bare (allMade t)) (all-counted p d ∙ never p (allMade t) h) ∙ bare-absent (allMade t) p l
 
 -- a node other than the root is no root, and its value fits
-abbrev Proper : Kind → ℕ → Type 0
-Proper κ v = (κ ≡ Root → ⊥) × Valued κ v
+abbrev NoRoot : Kind → Type 0
+NoRoot Root = ⊥
+NoRoot Number = Unit {0}
+NoRoot Successor = Unit {0}
+NoRoot Multiplexer = Unit {0}
+NoRoot Iterator = Unit {0}
+NoRoot LeftCounter = Unit {0}
+NoRoot RightCounter = Unit {0}
+NoRoot Transfer = Unit {0}
 
-differs : (κ : Kind) (z : κ ≡ Root → _≡_ {A = ℕ} 0 1) → κ ≡ Root → ⊥
-differs κ z e = let a = z e in omega arith
+abbrev Proper : Kind → ℕ → Type 0
+Proper κ v = NoRoot κ × Valued κ v
 
 proper : (t : Term) → iterators t ≤ 64 → Each Proper (made t 1)
 proper t h =
     made-each Proper t 1 (record {
-      successor = (differs Successor (λ e. cc), refl);
-      multiplexer = (differs Multiplexer (λ e. cc), refl);
-      iterator = λ g. ((differs Iterator (λ e. cc), refl), (differs LeftCounter (λ e. cc), refl), (differs RightCounter (λ e. cc), refl));
-      transfer = λ j a b. (differs Transfer (λ e. cc), (omega arith, omega arith));
-    }) (every-number (Proper Number) t (λ n. (differs Number (λ e. cc), tt)))
+      successor = (tt, refl);
+      multiplexer = (tt, refl);
+      iterator = λ g. ((tt, refl), (tt, refl), (tt, refl));
+      transfer = λ j a b. (tt, (omega arith, omega arith));
+    }) (every-number (Proper Number) t (λ n. (tt, tt)))
 
 one-root : (ns : List Node) (ms : List Made) → Bears ns ms → Each Proper ms → (k : ℕ) → nodeAt ns k .kind ≡ Some Root → ⊥
-one-root ns ms b e k h = each-kind Proper ns ms b e k Root h .0 refl
+one-root ns ms b e k h = each-kind Proper ns ms b e k Root h .0
 
 root-valued : (ns : List Node) (ms : List Made) → Bears ns ((Root, 0) ∷ ms) → Each Proper ms → (nodeAt ns 0 .kind ≡ Some Root) × ((k : ℕ) → nodeAt ns k .kind ≡ Some Root → k ≡ 0) × ((k : ℕ) → k < length ns → (κ : Kind) × (nodeAt ns k .kind ≡ Some κ) × Valued κ (nodeAt ns k .value))
 root-valued [] ms b e = absurd b

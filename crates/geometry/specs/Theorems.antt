@@ -16,10 +16,11 @@ use Rattle.geometry.specs.Network.{Env, EachVariable, wires, Kept, allMade, al
 use Rattle.geometry.specs.Memory.{laid, wiredCells}
 use Rattle.geometry.specs.Derivations.{names, Distinct, Everywhere, NumbersWithin, label}
 
--- a context lists the free variables in order of occurrence, so all derivations of a term have the same ones
+-- a context lists the free variables in order of occurrence
 abbrev pub NamesAreFree : Type 0
 NamesAreFree = (Γ : Ctx) (t : Term) (A : Ty) → Typed Γ t A → names Γ ≡ free t
 
+-- so all derivations of a term have the same ones
 abbrev pub SameNames : Type 0
 SameNames = (Γ Δ : Ctx) (t : Term) (A B : Ty) → Typed Γ t A → Typed Δ t B → names Γ ≡ names Δ
 
@@ -55,10 +56,11 @@ NetworksAreSound = (t : Term) → Typed [] t N → 3 * (1 + nodes t) ≤ 4294967
 abbrev pub PortsAreTyped : Type 0
 PortsAreTyped = (t : Term) (d : Typed [] t N) → Labelled (network t) (label d) × NoHigher (network t) (label d) (tallest d)
 
--- without iterator, the Ns at the plus ports are the weight, and there is no node of an iterator
+-- without iterator, the Ns at the plus ports are the weight
 abbrev pub WeightIsKept : Type 0
 WeightIsKept = (t : Term) (d : Typed [] t N) → iterators t ≡ 0 → networkWeight (label d) (network t) ≡ weight d
 
+-- and no node is one of an iterator's
 abbrev pub PlainKinds : Type 0
 PlainKinds = (t : Term) → iterators t ≡ 0 → AllPlain (network t)
 
@@ -66,6 +68,6 @@ PlainKinds = (t : Term) → iterators t ≡ 0 → AllPlain (network t)
 abbrev pub SuccessorsCounted : Type 0
 SuccessorsCounted = (t : Term) → successorNodes (network t) ≡ successors t
 
--- the value of an n node is a number of the term
+-- where the numbers of the term are at most b, so are the values of the n nodes
 abbrev pub NumbersKept : Type 0
 NumbersKept = (t : Term) (b : ℕ) → NumbersWithin b t → (k : ℕ) → nodeAt (network t) k .kind ≡ Some Number → nodeAt (network t) k .value ≤ b

@@ -12,7 +12,7 @@ pub fn names_are_free()
     ensures once { λ _. ⌜ NoneTwice ⌝ }
 {}
 
-/// A network has the root and as many nodes as its term counts, an S node for each S sign, and the term's numbers at its n nodes.
+/// A network has the root and as many nodes as its term counts, an S node for each S sign, and n nodes whose values keep within every bound of the term's numbers.
 pub fn nodes_are_counted()
     ensures nodes { λ _. ⌜ NodesCounted ⌝ }
     ensures successors { λ _. ⌜ SuccessorsCounted ⌝ }
