@@ -1,0 +1,16 @@
+pub mod Programs
+pub mod Names
+pub mod Made
+pub mod Ends
+pub mod Owned
+pub mod Joins
+pub mod Wired
+pub mod Nodes
+pub mod Soundness
+pub mod Typed
+pub mod Heights
+pub mod Labelling
+pub mod Weights
+pub mod Values
+pub mod Local
+pub mod Memory
