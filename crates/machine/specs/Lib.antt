@@ -1,3 +1,5 @@
 pub mod Reasons
 pub mod Steps
 pub mod Additions
+pub mod Strides
+pub mod Lawful

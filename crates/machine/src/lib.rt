@@ -2,6 +2,7 @@
 mod addition;
 mod machines;
 mod reasons;
+mod strides;
 
 pub use addition::Addition;
 pub use addition::AdditionMachine;
@@ -11,3 +12,5 @@ pub use reasons::Reason;
 pub use reasons::ReasonDebug;
 pub use reasons::ReasonEq;
 pub use reasons::ReasonPartialEq;
+pub use strides::Stride;
+pub use strides::StrideMachine;
