@@ -3,7 +3,7 @@ use mathlib.Core.Path.{_≡_, refl, sym, ap, _∙_}
 use mathlib.Core.Bool.{Bool, true, false, not, cond, _&&_}
 use mathlib.Core.List.{List, [], _∷_}
 use mathlib.Core.Logic.{_⊎_, inl, inr}
-use Prim.Native.Nat.{ℕ, _+_, _-_, _<_, _≤_}
+use Prim.Native.Nat.{ℕ, zero, suc, _+_, _-_, _<_, _≤_}
 use native.Mathlib.Omega.{arith}
 use lib.Dec.{eqb, leb, ltb}
 use lib.ListN.{length, getD, set}
@@ -20,7 +20,7 @@ use Rattle.token.specs.declared.memory.IterCell.{IterCell}
 use Rattle.token.specs.declared.memory.IterCell.the-variants as iter
 use Rattle.token.specs.declared.memory.DataCell.{DataCell}
 use Rattle.token.specs.declared.memory.DataCell.the-variants as dat
-use Rattle.token.specs.Table.{Stacks, Side, left, right, pairOn, countOf, keptOf, Top, Change, Row, table, fits, changed, shelfOf, isShelf, byLetter, byData, byIter, byTop, withIters, withShelves, anything, letter, question, questions, number, own, positive, overQuestion, iterCell, iterNumber, pair, started, counting, shelved, give, takeBack, ask, unask, lower, raise, push, pop, pose, withdraw, store, restore, start, finish, countUp, countDown, shelve, unshelve}
+use Rattle.token.specs.Table.{Stacks, Side, left, right, pairOn, countOf, keptOf, Top, Change, Row, table, fits, changed, isShelf, byLetter, byData, byIter, byTop, anything, letter, question, questions, number, own, positive, overQuestion, iterCell, iterNumber, pair, started, counting, shelved, give, takeBack, ask, unask, lower, raise, push, pop, pose, withdraw, store, restore, start, finish, countUp, countDown, shelve, unshelve}
 use Rattle.token.specs.Next.{applies, firstRow}
 use Rattle.token.specs.Rows.{guard, undo, reverse, Member, Undone, TableStands}
 use Rattle.token.proofs.Tests.{false-true, none-some, eqb-same, eqb-yes, eqb-equal, eqb-apart, leb-yes, leb-most, both, and-true, not-true, whether}
@@ -352,41 +352,46 @@ undo-down left v ls (iter.Pair a b ∷ cs) ds ss h = record { again = refl; back
 undo-down right v ls (iter.Pair a b ∷ cs) ds ss h = record { again = refl; back = ap (λ n. stacks ls (iter.Pair a n ∷ cs) ds ss) (down-up b h) }
 
 -- a shelf's number names one of the shelves
-place : (v : ℕ) (ss : List (List IterCell)) → (leb 1 v && leb v (length ss)) ≡ true → v - 1 < length ss
-place v ss h = let (a, b) = both (leb 1 v) (leb v (length ss)) h in let l = leb-most 1 v a in let m = leb-most v (length ss) b in omega arith
+place : (k : ℕ) (ss : List (List IterCell)) → (leb 1 (suc k) && leb (suc k) (length ss)) ≡ true → k < length ss
+place k ss h = leb-most (suc k) (length ss) (both (leb 1 (suc k)) (leb (suc k) (length ss)) h .1)
 
--- with other contents on a shelf there are as many shelves, and the shelf has those contents
-still-shelf : (v : ℕ) (ss : List (List IterCell)) (x : List IterCell) → (leb 1 v && leb v (length ss)) ≡ true → (leb 1 v && leb v (length (set ss (v - 1) x))) ≡ true
-still-shelf v ss x h = ap (λ n. leb 1 v && leb v n) (length-set ss (v - 1) x) ∙ h
+-- with other contents on a shelf there are as many shelves
+still-shelf : (k : ℕ) (ss : List (List IterCell)) (x : List IterCell) → (leb 1 (suc k) && leb (suc k) (length ss)) ≡ true → (leb 1 (suc k) && leb (suc k) (length (set ss k x))) ≡ true
+still-shelf k ss x h = ap (λ n. leb 1 (suc k) && leb (suc k) n) (length-set ss k x) ∙ h
 
 undo-shelve : (v : ℕ) (ls : List Letter) (cs : List IterCell) (ds : List DataCell) (ss : List (List IterCell)) → Undoes shelve v ls cs ds ss
-undo-shelve v ls [] ds ss h = false-true (both (isShelf v (stacks ls [] ds ss)) false h .1)
-undo-shelve v ls (c ∷ cs) ds ss h =
-    let ok = both (isShelf v (stacks ls (c ∷ cs) ds ss)) true h .0 in
-    let full = c ∷ getD ss (v - 1) [] in
-    let e = getD-set-same ss (v - 1) full [] (place v ss ok) in
+undo-shelve zero ls cs ds ss h = false-true h
+undo-shelve (suc k) ls [] ds ss h = false-true (both (isShelf (suc k) (stacks ls [] ds ss)) false h .1)
+undo-shelve (suc k) ls (c ∷ cs) ds ss h =
+    let ok = both (isShelf (suc k) (stacks ls (c ∷ cs) ds ss)) true h .0 in
+    let full = c ∷ getD ss k [] in
+    let e = getD-set-same ss k full [] (place k ss ok) in
     record {
-      again = and-true _ _ (still-shelf v ss full ok) (ap (byTop false (λ _ _. true)) e);
+      again = and-true _ _ (still-shelf k ss full ok) (ap (byTop false (λ _ _. true)) e);
       back =
-        ap (λ xs. byTop (stacks ls cs ds (set ss (v - 1) full)) (λ x rest. stacks ls (x ∷ cs) ds (set (set ss (v - 1) full) (v - 1) rest)) xs) e
-        ∙ ap (stacks ls (c ∷ cs) ds) (set-set ss (v - 1) full (getD ss (v - 1) []) ∙ set-getD ss (v - 1) []);
+        ap (λ xs. byTop (stacks ls cs ds (set ss k full)) (λ x rest. stacks ls (x ∷ cs) ds (set (set ss k full) k rest)) xs) e
+        ∙ ap (stacks ls (c ∷ cs) ds) (set-set ss k full (getD ss k []) ∙ set-getD ss k []);
     }
 
-unshelved : (v : ℕ) (ls : List Letter) (cs : List IterCell) (ds : List DataCell) (ss : List (List IterCell)) (xs : List IterCell) → getD ss (v - 1) [] ≡ xs → Undoes unshelve v ls cs ds ss
-unshelved v ls cs ds ss [] e h = false-true (sym (ap (byTop false (λ _ _. true)) e) ∙ both (isShelf v (stacks ls cs ds ss)) _ h .1)
-unshelved v ls cs ds ss (x ∷ xs) e h =
-    let ok = both (isShelf v (stacks ls cs ds ss)) _ h .0 in
+unshelved : (k : ℕ) (ls : List Letter) (cs : List IterCell) (ds : List DataCell) (ss : List (List IterCell)) (xs : List IterCell) → getD ss k [] ≡ xs → Undoes unshelve (suc k) ls cs ds ss
+unshelved k ls cs ds ss [] e h = false-true (sym (ap (byTop false (λ _ _. true)) e) ∙ both (isShelf (suc k) (stacks ls cs ds ss)) _ h .1)
+unshelved k ls cs ds ss (x ∷ xs) e h =
+    let ok = both (isShelf (suc k) (stacks ls cs ds ss)) _ h .0 in
     let s = stacks ls cs ds ss in
-    let t = stacks ls (x ∷ cs) ds (set ss (v - 1) xs) in
-    let after : changed unshelve v s ≡ t = ap (λ ys. byTop s (λ y rest. stacks ls (y ∷ cs) ds (set ss (v - 1) rest)) ys) e in
-    let low = getD-set-same ss (v - 1) xs [] (place v ss ok) in
+    let t = stacks ls (x ∷ cs) ds (set ss k xs) in
+    let after : changed unshelve (suc k) s ≡ t = ap (λ ys. byTop s (λ y rest. stacks ls (y ∷ cs) ds (set ss k rest)) ys) e in
+    let low = getD-set-same ss k xs [] (place k ss ok) in
     record {
-      again = ap (fits iterCell v) after ∙ and-true _ _ (still-shelf v ss xs ok) refl;
+      again = ap (fits iterCell (suc k)) after ∙ and-true _ _ (still-shelf k ss xs ok) refl;
       back =
-        ap (changed shelve v) after
-        ∙ ap (λ ys. stacks ls cs ds (set (set ss (v - 1) xs) (v - 1) (x ∷ ys))) low
-        ∙ ap (stacks ls cs ds) (set-set ss (v - 1) xs (x ∷ xs) ∙ ap (set ss (v - 1)) (sym e) ∙ set-getD ss (v - 1) []);
+        ap (changed shelve (suc k)) after
+        ∙ ap (λ ys. stacks ls cs ds (set (set ss k xs) k (x ∷ ys))) low
+        ∙ ap (stacks ls cs ds) (set-set ss k xs (x ∷ xs) ∙ ap (set ss k) (sym e) ∙ set-getD ss k []);
     }
+
+undo-unshelve : (v : ℕ) (ls : List Letter) (cs : List IterCell) (ds : List DataCell) (ss : List (List IterCell)) → Undoes unshelve v ls cs ds ss
+undo-unshelve zero ls cs ds ss h = false-true h
+undo-unshelve (suc k) ls cs ds ss h = unshelved k ls cs ds ss (getD ss k []) refl h
 
 undone-at : (c : Change) (v : ℕ) (ls : List Letter) (cs : List IterCell) (ds : List DataCell) (ss : List (List IterCell)) → Undoes c v ls cs ds ss
 undone-at give v ls cs ds ss = undo-give v ls cs ds ss
@@ -406,7 +411,7 @@ undone-at (finish σ) v ls cs ds ss = undo-finish σ v ls cs ds ss
 undone-at (countUp σ) v ls cs ds ss = undo-up σ v ls cs ds ss
 undone-at (countDown σ) v ls cs ds ss = undo-down σ v ls cs ds ss
 undone-at shelve v ls cs ds ss = undo-shelve v ls cs ds ss
-undone-at unshelve v ls cs ds ss = unshelved v ls cs ds ss (getD ss (v - 1) []) refl
+undone-at unshelve v ls cs ds ss = undo-unshelve v ls cs ds ss
 
 pub undone : (c : Change) (v : ℕ) (s : Stacks) → fits (guard c) v s ≡ true → Undone c v s
 undone c v s h = undone-at c v (s .letters) (s .iters) (s .datas) (s .shelves) h
