@@ -3,3 +3,6 @@ pub mod Steps
 pub mod Additions
 pub mod Strides
 pub mod Lawful
+pub mod Walks
+pub mod Readings
+pub mod Runs
