@@ -1,4 +1,3 @@
 // The token as a machine: over shared cells and lent memory.
-mod tokens;
+mod passages;
 
-pub use tokens::Token;
