@@ -180,8 +180,12 @@ fn port_at(node: u32, place: Port) -> u32
 fn entrance(cells: &[Cell]) -> u32
     ensures { λ r. ⌜ r ≡ entrance-of (nodesOf (now (cells .entry))) ⌝ }
 {
-    match link_of(cells, 0) {
-        Some(link) if is_inside(cells, link) => link,
-        _ => 0,
+    let Some(link) = link_of(cells, 0) else {
+        return 0;
+    };
+    if is_inside(cells, link) {
+        link
+    } else {
+        0
     }
 }
