@@ -7,7 +7,9 @@ mod performing;
 mod readings;
 mod reasons;
 mod strides;
+mod sums;
 mod walks;
+mod worked;
 
 pub use addition::Addition;
 pub use addition::AdditionMachine;
@@ -28,3 +30,4 @@ pub use strides::Stride;
 pub use strides::StrideMachine;
 pub use walks::Probe;
 pub use walks::Walk;
+pub use worked::out_and_back;
