@@ -18,7 +18,9 @@ use std::alloc::Global;
 
 pub impl<'a> Readable for Token<'a> as TokenReadable {
     type Query = Query;
+
     type Room = Vec<u8>;
+
     type Reply = Reply;
 
     ghost Told = { Reading };

@@ -47,7 +47,11 @@ mod tests {
     }
 
     // Opens a token with the first data cell, goes forward, and says how far it came, with its number.
-    fn walked<const N: usize>(cells: [Cell; N], first: DataCell, memory: usize) -> (u32, Option<Reason>, Result<u32, Reason>) {
+    fn walked<const N: usize>(
+        cells: [Cell; N],
+        first: DataCell,
+        memory: usize,
+    ) -> (u32, Option<Reason>, Result<u32, Reason>) {
         let mut letters = [Letter::Left; FEW];
         let mut iters = [IterCell::Number(0); FEW];
         let mut datas = [DataCell::Question; FEW];
@@ -77,7 +81,12 @@ mod tests {
 
     // An iterator that hands its number to one node, by its second port; that node's first port is linked to a third node or to itself.
     fn handed_to(node: Cell, last: Cell) -> [Cell; 4] {
-        [root(3), cell(Kind::Iterator.number(), 0, 0, ABSENT, 7), node, last]
+        [
+            root(3),
+            cell(Kind::Iterator.number(), 0, 0, ABSENT, 7),
+            node,
+            last,
+        ]
     }
 
     fn transfer(value: u32) -> Cell {
@@ -103,7 +112,14 @@ mod tests {
         let mut iters = [IterCell::Number(0); FEW];
         let mut datas = [DataCell::Question; FEW];
         let mut shelves = [IterCell::Number(0); 0];
-        let token = Token::open(&cells, DataCell::Question, &mut letters, &mut iters, &mut datas, &mut shelves);
+        let token = Token::open(
+            &cells,
+            DataCell::Question,
+            &mut letters,
+            &mut iters,
+            &mut datas,
+            &mut shelves,
+        );
         let mut walk = Walk::new(token);
         check_eq(walk.forward(20), (20, None))?;
         check_eq(walk.back(1_000), (20, Some(Reason::Home)))?;
@@ -119,7 +135,14 @@ mod tests {
         let mut iters = [IterCell::Number(0); FEW];
         let mut datas = [DataCell::Question; FEW];
         let mut shelves = [IterCell::Number(0); 0];
-        let token = Token::open(&cells, DataCell::Question, &mut letters, &mut iters, &mut datas, &mut shelves);
+        let token = Token::open(
+            &cells,
+            DataCell::Question,
+            &mut letters,
+            &mut iters,
+            &mut datas,
+            &mut shelves,
+        );
         let mut walk = Walk::new(token);
         check_eq(walk.forward(2), (2, None))?;
         let mut line = [b'.'; 40];
@@ -140,24 +163,46 @@ mod tests {
         let (granted, reason, _) = walked(successor_of(most), DataCell::Question, FEW);
         check_eq((granted, reason), (2, Some(Reason::Overflow)))?;
         let (left, right) = (Kind::LeftCounter.number(), Kind::RightCounter.number());
-        let up = handed_to(cell(right, 0, 11, 5, ABSENT), cell(left, 0, ABSENT, ABSENT, 6));
+        let up = handed_to(
+            cell(right, 0, 11, 5, ABSENT),
+            cell(left, 0, ABSENT, ABSENT, 6),
+        );
         let (granted, reason, _) = walked(up, DataCell::Number(most), FEW);
         check_eq((granted, reason), (2, Some(Reason::Overflow)))?;
-        let up = handed_to(cell(left, 0, 11, 5, ABSENT), cell(right, 0, ABSENT, ABSENT, 6));
+        let up = handed_to(
+            cell(left, 0, 11, 5, ABSENT),
+            cell(right, 0, ABSENT, ABSENT, 6),
+        );
         let (granted, reason, _) = walked(up, DataCell::Number(most), FEW);
         check_eq((granted, reason), (2, Some(Reason::Overflow)))
     }
 
     #[test]
     fn a_transfer_wants_a_shelf() -> Result<(), Fail> {
-        let (granted, reason, found) = walked(handed_to(transfer(1), root(0)), DataCell::Number(9), FEW);
+        let (granted, reason, found) = walked(
+            handed_to(transfer(1), root(0)),
+            DataCell::Number(9),
+            FEW,
+        );
         check_eq((granted, reason), (4, Some(Reason::Home)))?;
         check_eq(found, Ok(9))?;
-        let (granted, reason, _) = walked(handed_to(transfer(64), root(0)), DataCell::Number(9), FEW);
+        let (granted, reason, _) = walked(
+            handed_to(transfer(64), root(0)),
+            DataCell::Number(9),
+            FEW,
+        );
         check_eq((granted, reason), (1, Some(Reason::Full)))?;
-        let (granted, reason, _) = walked(handed_to(transfer(65), root(0)), DataCell::Number(9), FEW);
+        let (granted, reason, _) = walked(
+            handed_to(transfer(65), root(0)),
+            DataCell::Number(9),
+            FEW,
+        );
         check_eq((granted, reason), (1, Some(Reason::NoRow)))?;
-        let (granted, reason, _) = walked(handed_to(transfer(0), root(0)), DataCell::Number(9), FEW);
+        let (granted, reason, _) = walked(
+            handed_to(transfer(0), root(0)),
+            DataCell::Number(9),
+            FEW,
+        );
         check_eq((granted, reason), (1, Some(Reason::NoRow)))
     }
 
@@ -177,7 +222,11 @@ mod tests {
         check_eq((granted, reason), (0, Some(Reason::Full)))?;
         let (granted, reason, _) = walked([root(5), mirror], DataCell::Number(7), FEW);
         check_eq((granted, reason), (0, Some(Reason::Unlinked)))?;
-        let (granted, reason, _) = walked([root(3), cell(8, 0, 0, ABSENT, ABSENT)], DataCell::Question, FEW);
+        let (granted, reason, _) = walked(
+            [root(3), cell(8, 0, 0, ABSENT, ABSENT)],
+            DataCell::Question,
+            FEW,
+        );
         check_eq((granted, reason), (0, Some(Reason::NoRow)))
     }
 }
