@@ -1,15 +1,16 @@
 // Walks the addition machine from 3/2 there and back, and prints each action.
 use machine::Addition;
 use machine::AdditionMachine;
-use machine::AdditionReadable;
-use machine::Answer;
-use machine::Call;
 use machine::Direction;
 use machine::Grant;
 use machine::Stride;
 use machine::StrideMachine;
 use machine::Walk;
 use machine::out_and_back;
+use runs::AdditionReadable;
+use runs::Answer;
+use runs::Call;
+use runs::perform;
 use std::io;
 
 fn main(rt: LibcRuntime) -> io::Result<()> {
@@ -20,33 +21,66 @@ fn main(rt: LibcRuntime) -> io::Result<()> {
         direction: Direction::Out,
     });
     act(&rt, &mut walk, &[Call::Sum, Call::Read(())])?;
+    step_by_step(&rt, &mut walk)?;
+    probes(&rt, &mut walk)?;
+    strides(&rt, walk.into_machine())?;
+    whole(&rt)
+}
+
+// Forward until the machine is home, and back until it is home the other way.
+fn step_by_step(rt: &LibcRuntime, walk: &mut Walk<Addition>) -> io::Result<()> {
     for _ in 0..4 {
-        act(&rt, &mut walk, &[Call::Forward(1), Call::Sum, Call::Read(())])?;
+        act(rt, walk, &[Call::Forward(1), Call::Sum, Call::Read(())])?;
     }
     for _ in 0..6 {
-        act(&rt, &mut walk, &[Call::Back(1), Call::Sum, Call::Read(())])?;
+        act(rt, walk, &[Call::Back(1), Call::Sum, Call::Read(())])?;
     }
-    act(&rt, &mut walk, &[Call::Probe, Call::Forward(10), Call::Read(()), Call::BringBack, Call::Sum, Call::Read(())])?;
-    act(&rt, &mut walk, &[Call::Probe, Call::Forward(2), Call::Keep, Call::Sum, Call::Read(())])?;
-    act(&rt, &mut walk, &[Call::BringBack, Call::Forward(1_000_001)])?;
+    Ok(())
+}
 
+// One probe is brought back and another is kept; then none is open.
+fn probes(rt: &LibcRuntime, walk: &mut Walk<Addition>) -> io::Result<()> {
+    act(
+        rt,
+        walk,
+        &[
+            Call::Probe,
+            Call::Forward(10),
+            Call::Read(()),
+            Call::BringBack,
+            Call::Sum,
+            Call::Read(()),
+        ],
+    )?;
+    act(
+        rt,
+        walk,
+        &[Call::Probe, Call::Forward(2), Call::Keep, Call::Read(())],
+    )?;
+    act(rt, walk, &[Call::BringBack, Call::Forward(1_000_001)])
+}
+
+fn strides(rt: &LibcRuntime, machine: Addition) -> io::Result<()> {
     println!(rt, "by strides of 2")?;
-    let mut strides = Walk::new(Stride::new(walk.into_machine(), 2));
-    tell(&rt, "forward 10", strides.forward(10))?;
-    let below = strides.machine().below();
-    println!(rt, "sum: {}", strides.sum())?;
-    println!(rt, "read: {}/{}", below.a, below.b)?;
+    let mut walk = Walk::new(Stride::new(machine, 2));
+    tell(rt, "forward 10", walk.forward(10))?;
+    println!(rt, "sum: {}", walk.sum())?;
+    let below = walk.machine().below();
+    println!(rt, "read: {}/{}", below.a, below.b)
+}
 
-    println!(rt, "from 3/2, in one call each way")?;
+// The whole case in one call each way.
+fn whole(rt: &LibcRuntime) -> io::Result<()> {
+    println!(rt, "opened out at 3/2 once more")?;
     let (forward, back, sum) = out_and_back();
-    tell(&rt, "forward 10", forward)?;
-    tell(&rt, "back 10", back)?;
+    tell(rt, "forward 10", forward)?;
+    tell(rt, "back 10", back)?;
     println!(rt, "sum: {sum}")
 }
 
 // Performs the calls and prints each with its answer.
 fn act(rt: &LibcRuntime, walk: &mut Walk<Addition>, calls: &[Call<()>]) -> io::Result<()> {
-    let answers = walk.perform(calls, rt.alloc())?;
+    let answers = perform(walk, calls, rt.alloc())?;
     for (call, answer) in calls.iter().zip(answers.iter()) {
         show(rt, call, answer)?;
     }

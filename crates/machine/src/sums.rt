@@ -7,6 +7,7 @@ ghost use Rattle.machine.specs.Walks.{room, moved, towards};
 use crate::headings::Heading;
 
 const HIGHEST: i64 = 2_000_000_000;
+
 const LOWEST: i64 = -2_000_000_000;
 
 // The sum of a walk: it stays from -2,000,000,000 to 2,000,000,000.
