@@ -10,9 +10,9 @@ use crate::queries::Query;
 use crate::queries::Reply;
 use crate::steps::TokenMachine;
 use crate::tokens::Token;
-use machine::Readable;
 use machine::Reason;
 use machine::Walk;
+use runs::Readable;
 use std::alloc::AllocError;
 use std::alloc::Global;
 
