@@ -1,0 +1,4 @@
+pub mod Deciding
+pub mod Stepping
+pub mod Empty
+pub mod Replies
