@@ -1,0 +1,6 @@
+pub mod Leaves
+pub mod Nodes
+pub mod Pigeonhole
+pub mod Numbering
+pub mod Questions
+pub mod Orbit

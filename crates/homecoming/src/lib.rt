@@ -1,0 +1,4 @@
+// Programs without iterator bring the token home.
+pub fn hello() -> u8 {
+    0
+}
