@@ -15,10 +15,10 @@ use Rattle.cells.specs.declared.kinds.Port.{Port}
 use Rattle.cells.specs.declared.kinds.Port.the-variants.{First, Second, Third}
 use Rattle.cells.specs.Ports.{Node, nodeAt, arity, offset, portAt, placeOf, inside, link}
 use Rattle.cells.specs.Sound.{Below, Has, Mutual, Sound}
-use Rattle.geometry.specs.Labels.{Label, on, flip, Fits, Labelled, networkWeight, successorNodes, Plain, AllPlain}
+use Rattle.geometry.specs.Labels.{Label, on, flip, Fits, at-root, Labelled, networkWeight, successorNodes, Plain, AllPlain}
 use Rattle.homecoming.proofs.Leaves.{Letter, Asks, no-question}
 use Rattle.homecoming.proofs.Nodes.{isNumber, isSuccessor, across, across-twice, among, Leaves, passes, not-root, at-successor-node}
-use Rattle.homecoming.proofs.Pigeonhole.{bump, count, count-all, few-in}
+use Rattle.homecoming.proofs.Pigeonhole.{In, count, count-all, few-in, Least, least}
 use Rattle.homecoming.proofs.Numbering.{offset-of, port-again, node-of, part-of, place-of, inside-low, inside-is}
 use Rattle.homecoming.proofs.Questions.{Position, Question, questions, questions-length, question-in, successorList, successorList-length, successor-in}
 
@@ -61,6 +61,27 @@ among-label label k First = let e : 3 * k ≡ 3 * k + 0 = omega arith in ap labe
 among-label label k Second = refl
 among-label label k Third = refl
 
+nonempty : (ns : List Node) → nodeAt ns 0 .kind ≡ Some Root → 0 < length ns
+nonempty [] e = let z : _≡_ {A = ℕ} 0 1 = cc in absurd (omega arith)
+nonempty (n ∷ ns) e = omega arith
+
+root-asks : (a b c : Label) → Fits Root a b c → Asks (flip a) []
+root-asks a b c at-root = refl
+
+same-kind : {κ ι : Kind} → Some κ ≡ Some ι → κ ≡ ι
+same-kind e = cc
+
+successor-kind : (o : Option Kind) → isSuccessor o ≡ true → o ≡ Some Successor
+successor-kind None e = let z : _≡_ {A = ℕ} 0 1 = cc in absurd (omega arith)
+successor-kind (Some Root) e = let z : _≡_ {A = ℕ} 0 1 = cc in absurd (omega arith)
+successor-kind (Some Number) e = let z : _≡_ {A = ℕ} 0 1 = cc in absurd (omega arith)
+successor-kind (Some Successor) e = refl
+successor-kind (Some Multiplexer) e = let z : _≡_ {A = ℕ} 0 1 = cc in absurd (omega arith)
+successor-kind (Some Iterator) e = let z : _≡_ {A = ℕ} 0 1 = cc in absurd (omega arith)
+successor-kind (Some LeftCounter) e = let z : _≡_ {A = ℕ} 0 1 = cc in absurd (omega arith)
+successor-kind (Some RightCounter) e = let z : _≡_ {A = ℕ} 0 1 = cc in absurd (omega arith)
+successor-kind (Some Transfer) e = let z : _≡_ {A = ℕ} 0 1 = cc in absurd (omega arith)
+
 -- a network of plain kinds whose ports are numbered below the absent one's number
 pub record Given (ns : List Node) (label : ℕ → Label) : Type 0 where
   pub sound : Sound ns
@@ -70,7 +91,7 @@ pub record Given (ns : List Node) (label : ℕ → Label) : Type 0 where
 
 module _ (ns : List Node) (label : ℕ → Label) (g : Given ns label) where
   -- what is known of the node of a question's port
-  record Place (p : ℕ) (s : List Letter) : Type 0 where
+  pub record Place (p : ℕ) (s : List Letter) : Type 0 where
     pub low : p / 3 < length ns
     pub kind : Kind
     pub is : kindAt ns p ≡ Some kind
@@ -93,11 +114,128 @@ module _ (ns : List Node) (label : ℕ → Label) (g : Given ns label) where
       ; asks = subst (λ a. Asks a (x .1)) (sym (among-label label (p / 3) (placeOf p) ∙ ap label (port-again p))) (q .1)
       }
 
-  has-port : (k : ℕ) (κ : Kind) → k < length ns → nodeAt ns k .kind ≡ Some κ → (q : Port) → offset q < arity κ → offset q < 3 → Has ns (portAt k q)
-  has-port k κ h e q o b =
+  has-port : (k : ℕ) (κ : Kind) → k < length ns → nodeAt ns k .kind ≡ Some κ → (q : Port) → offset q < arity κ → Has ns (portAt k q)
+  has-port k κ h e q o =
       let small = g .numbered in
+      let node = node-of k q in
       record
-      { lies = inside-is ns (portAt k q) (subst (λ j. j < length ns) (sym (node-of k q)) h) (omega arith)
+      { lies = inside-is ns (portAt k q) (omega arith) (omega arith)
       ; owned = subst (λ i. Below i (nodeAt ns (portAt k q / 3) .kind)) (sym (part-of k q))
-            (subst (λ j. Below (offset q) (nodeAt ns j .kind)) (sym (node-of k q)) (subst (λ o. Below (offset q) o) (sym e) o))
+            (subst (λ j. Below (offset q) (nodeAt ns j .kind)) (sym node) (subst (λ o. Below (offset q) o) (sym e) o))
       }
+
+  -- a question passes each node but a number, and leaves as a question
+  pub record Out (x : Position) : Type 0 where
+    pub has : Has ns (over ns x .0)
+    pub asks : Asks (flip (label (over ns x .0))) (over ns x .1)
+
+  pub out : (x : Position) → Question ns label x → isNumber (kindAt ns (x .0)) ≡ false → Out x
+  out x q e =
+      let p = x .0 in
+      let k = p / 3 in
+      let a = at x q in
+      let κ = a .kind in
+      let l : Leaves κ (label (3 * k)) (label (3 * k + 1)) (label (3 * k + 2)) (across (kindAt ns p) (placeOf p) (x .1))
+            = subst (λ o. Leaves κ (label (3 * k)) (label (3 * k + 1)) (label (3 * k + 2)) (across o (placeOf p) (x .1))) (sym (a .is))
+                (passes κ _ _ _ (a .fits) (g .plain k κ (a .is)) (subst (λ o. isNumber o ≡ false) (a .is) e) (placeOf p) (a .owned) (x .1) (a .asks)) in
+      let q = across (kindAt ns p) (placeOf p) (x .1) .0 in
+      record
+      { has = has-port k κ (a .low) (a .is) q (l .owned)
+      ; asks = subst (λ b. Asks (flip b) (over ns x .1)) (among-label label k q) (l .asks)
+      }
+
+  pub onward-asks : (x : Position) → Question ns label x → isNumber (kindAt ns (x .0)) ≡ false → Question ns label (onward ns x)
+  onward-asks x q e =
+      let o = out x q e in
+      (g .sound .linked (over ns x .0) (o .has) .there, subst (λ a. Asks a (over ns x .1)) (sym (g .labelled .ends (over ns x .0) (o .has))) (o .asks))
+
+  -- the wire leads back
+  pub along-back : (x : Position) → Question ns label x → isNumber (kindAt ns (x .0)) ≡ false → along ns (onward ns x) ≡ over ns x
+  along-back x q e = ap (λ p. (p, over ns x .1)) (g .sound .linked (over ns x .0) (out x q e .has) .back)
+
+  undo : (x : Position) → Question ns label x → isNumber (kindAt ns (x .0)) ≡ false → over ns (along ns (onward ns x)) ≡ x
+  undo x q e = ap (over ns) (along-back x q e) ∙ over-twice ns x
+
+  onward-injective : (x y : Position) → Question ns label x → Question ns label y → isNumber (kindAt ns (x .0)) ≡ false → isNumber (kindAt ns (y .0)) ≡ false → onward ns x ≡ onward ns y → x ≡ y
+  onward-injective x y q u e f h = sym (undo x q e) ∙ ap (λ z. over ns (along ns z)) h ∙ undo y u f
+
+  some-node : 0 < length ns
+  some-node = nonempty ns (g .sound .root)
+
+  pub root-has : Has ns 0
+  root-has = record { lies = inside-is ns 0 some-node (omega arith); owned = subst (λ o. Below 0 o) (sym (g .sound .root)) (omega arith) }
+
+  pub opening-asks : Question ns label (orbit ns 0)
+  opening-asks =
+      let m = g .sound .linked 0 root-has in
+      (m .there, subst (λ a. Asks a []) (sym (g .labelled .ends 0 root-has)) (root-asks _ _ _ (g .labelled .fits 0 Root (g .sound .root))))
+
+  -- no question comes to node 0
+  pub not-home : (x : Position) → Question ns label x → 0 ≡ x .0 / 3 → ⊥
+  not-home x q h =
+      let a = at x q in
+      let k = x .0 / 3 in
+      let e : a .kind ≡ Root = same-kind (sym (a .is) ∙ ap (λ k. nodeAt ns k .kind) (sym h) ∙ g .sound .root) in
+      not-root _ _ _ (subst (λ κ. Fits κ (label (3 * k)) (label (3 * k + 1)) (label (3 * k + 2))) e (a .fits)) (placeOf (x .0))
+      (subst (λ κ. offset (placeOf (x .0)) < arity κ) e (a .owned)) (x .1) (a .asks)
+
+  not-before : (x : Position) → Question ns label x → isNumber (kindAt ns (x .0)) ≡ false → orbit ns 0 ≡ onward ns x → ⊥
+  not-before x q e h =
+      let same : 0 ≡ over ns x .0 = sym (g .sound .linked 0 root-has .back) ∙ ap (λ z. along ns z .0) h ∙ ap (λ z. z .0) (along-back x q e) in
+      let node = node-of (x .0 / 3) (across (kindAt ns (x .0)) (placeOf (x .0)) (x .1) .0) in
+      not-home x q (omega arith)
+
+  -- no number is met before the m-th position
+  abbrev pub Going : ℕ → Type 0
+  Going m = (i : ℕ) → i < m → isNumber (kindAt ns (orbit ns i .0)) ≡ false
+
+  pub orbit-asks : (m : ℕ) → Going m → (i : ℕ) → i ≤ m → Question ns label (orbit ns i)
+  orbit-asks m going zero h = opening-asks
+  orbit-asks m going (suc i) h = onward-asks (orbit ns i) (orbit-asks m going i (omega arith)) (going i (omega arith))
+
+  -- positions never repeat
+  apart : (m : ℕ) → Going m → (i k : ℕ) → i < k → k ≤ m → orbit ns i ≡ orbit ns k → ⊥
+  apart m going i zero h b e = absurd (omega arith)
+  apart m going zero (suc k) h b e = not-before (orbit ns k) (orbit-asks m going k (omega arith)) (going k (omega arith)) e
+  apart m going (suc i) (suc k) h b e =
+      apart m going i k (omega arith) (omega arith)
+      (onward-injective (orbit ns i) (orbit ns k) (orbit-asks m going i (omega arith)) (orbit-asks m going k (omega arith)) (going i (omega arith)) (going k (omega arith)) e)
+
+  -- so a number is met, before there are more positions than the network has questions
+  stops : Going (networkWeight label ns) → ⊥
+  stops going =
+      let w = networkWeight label ns in
+      let few = few-in (λ _. true) (suc w) (questions ns label) (orbit ns)
+            (λ i h _. question-in ns label (g .sound) (g .labelled) (orbit ns i) (orbit-asks w going i (omega arith)))
+            (λ i k h b _ _ e. apart w going i k h (omega arith) e) in
+      let len = questions-length ns label in
+      let all = count-all (suc w) in
+      omega arith
+
+  pub number-met : Least (λ i. isNumber (kindAt ns (orbit ns i .0))) (networkWeight label ns)
+  number-met = elim (least (λ i. isNumber (kindAt ns (orbit ns i .0))) (networkWeight label ns)) [ inl f ↦ f | inr n ↦ absurd (stops n) ]
+
+  abbrev pub passesSuccessor : ℕ → Bool
+  passesSuccessor i = isSuccessor (kindAt ns (orbit ns i .0))
+
+  at-successor-is : (x : Position) → Question ns label x → isSuccessor (kindAt ns (x .0)) ≡ true → (kindAt ns (x .0) ≡ Some Successor) × (_≡_ {A = Position} (3 * (x .0 / 3) + 1, []) x)
+  at-successor-is x q e =
+      let a = at x q in
+      let k = x .0 / 3 in
+      let is = successor-kind (kindAt ns (x .0)) e in
+      let f : a .kind ≡ Successor = same-kind (sym (a .is) ∙ is) in
+      let o = at-successor-node _ _ _ (subst (λ κ. Fits κ (label (3 * k)) (label (3 * k + 1)) (label (3 * k + 2))) f (a .fits)) (placeOf (x .0))
+            (subst (λ κ. offset (placeOf (x .0)) < arity κ) f (a .owned)) (x .1) (a .asks) in
+      (is, ap (λ o. (portAt k (o .0), o .1)) o ∙ ap (λ p. (p, x .1)) (port-again (x .0)))
+
+  -- each successor node is passed at most once
+  pub few-successors : (m : ℕ) → Going m → (i : ℕ) → i ≤ suc m → count passesSuccessor i ≤ successorNodes ns
+  few-successors m going i h =
+      let few = few-in passesSuccessor i (successorList ns) (orbit ns)
+            (λ j b e.
+                let q = orbit-asks m going j (omega arith) in
+                let a = at-successor-is (orbit ns j) q e in
+                subst (λ x. In (successorList ns) x) (a .1) (successor-in ns (orbit ns j .0 / 3) (at (orbit ns j) q .low) (a .0)))
+            (λ j k b c _ _ e. apart m going j k b (omega arith) e) in
+      let len = successorList-length ns in
+      omega arith

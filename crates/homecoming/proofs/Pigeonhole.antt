@@ -59,6 +59,23 @@ few-below : (b : ℕ → Bool) (n w : ℕ) (f : ℕ → ℕ) → Low b n w f →
 few-below b zero w f low apart = omega arith
 few-below b (suc n) w f low apart = more b n (few-below b n) (b n) refl w f low apart
 
+-- the least number below w that passes the test
+pub record Least (b : ℕ → Bool) (w : ℕ) : Type 0 where
+  pub at : ℕ
+  pub below : at < w
+  pub here : b at ≡ true
+  pub not-before : (i : ℕ) → i < at → b i ≡ false
+
+least-more : (b : ℕ → Bool) (w : ℕ) → Least b w ⊎ ((i : ℕ) → i < w → b i ≡ false) → (c : Bool) → b w ≡ c → Least b (suc w) ⊎ ((i : ℕ) → i < suc w → b i ≡ false)
+least-more b w (inl f) c e = inl (record { at = f .at; below = let h = f .below in omega arith; here = f .here; not-before = f .not-before })
+least-more b w (inr f) true e = inl (record { at = w; below = omega arith; here = e; not-before = f })
+least-more b w (inr f) false e =
+    inr (λ i h. elim (decLt i w) [ yes g ↦ f i g | no g ↦ let d : w ≡ i = omega arith in subst (λ k. b k ≡ false) d e ])
+
+pub least : (b : ℕ → Bool) (w : ℕ) → Least b w ⊎ ((i : ℕ) → i < w → b i ≡ false)
+least b zero = inr (λ i h. absurd (omega arith))
+least b (suc w) = least-more b w (least b w) (b w) refl
+
 module _ {A : Type 0} where
   -- a stands at the place i of the list
   abbrev pub At : List A → ℕ → A → Type 0
