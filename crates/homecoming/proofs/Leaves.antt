@@ -5,10 +5,9 @@ use Prim.Native.Nat.{ℕ, suc, _≤_, max}
 use native.Mathlib.Omega.{arith}
 use lib.ListN.{length}
 use Rattle.calculus.specs.Types.{Ty, N, _⇒_, _⊗_, height}
+use Rattle.token.specs.declared.memory.Letter.{Letter}
+use Rattle.token.specs.declared.memory.Letter.the-variants.{Left, Right}
 use Rattle.geometry.specs.Labels.{Sign, plus, minus, opposite, Label, on, flip, typeOf}
-
-pub data Letter : Type 0 where
-  Left Right : Letter
 
 -- from a root of sign x the letters lead to an N of sign y: the argument of a function has the opposite sign
 abbrev pub Leads : Ty → Sign → List Letter → Sign → Type 0

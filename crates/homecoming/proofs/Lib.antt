@@ -4,3 +4,5 @@ pub mod Pigeonhole
 pub mod Numbering
 pub mod Questions
 pub mod Orbit
+pub mod Steps
+pub mod Way

@@ -2,8 +2,9 @@
 use mathlib.Core.Path.{_≡_, refl, sym, subst}
 use mathlib.Core.Bool.{Bool, true, false}
 use mathlib.Core.List.{List, [], _∷_}
-use Prim.Native.Nat.{ℕ, zero, suc, _<_}
+use Prim.Native.Nat.{ℕ, zero, suc, _+_, _<_}
 use native.Mathlib.Omega.{arith}
+use lib.ListN.{replicate}
 use Rattle.std.specs.declared.option.Option.{Option}
 use Rattle.std.specs.declared.option.Option.the-variants.{Some, None}
 use Rattle.cells.specs.declared.kinds.Kind.{Kind}
@@ -13,8 +14,14 @@ use Rattle.cells.specs.declared.kinds.Port.the-variants.{First, Second, Third}
 use Rattle.cells.specs.Ports.{arity, offset}
 use Rattle.cells.specs.Sound.{Below}
 use Rattle.calculus.specs.Types.{Ty, N, _⇒_, _⊗_}
+use Rattle.token.specs.declared.memory.Letter.{Letter}
+use Rattle.token.specs.declared.memory.Letter.the-variants.{Left, Right}
+use Rattle.token.specs.declared.memory.DataCell.{DataCell}
+use Rattle.token.specs.declared.memory.DataCell.the-variants as dat
+use Rattle.token.specs.Table.{Stacks, Row, changed}
+use Rattle.token.specs.Next.{rowFor}
 use Rattle.geometry.specs.Labels.{Sign, plus, minus, opposite, Label, on, flip, Fits, at-root, at-number, at-successor, at-function, at-pair, at-iterator, at-left-counter, at-right-counter, at-transfer, Plain}
-use Rattle.homecoming.proofs.Leaves.{Letter, Left, Right, Leads, Asks, twice-opposite, no-question}
+use Rattle.homecoming.proofs.Leaves.{Leads, Asks, twice-opposite, no-question}
 
 abbrev pub isNumber : Option Kind → Bool
 isNumber None = false
@@ -78,10 +85,78 @@ among a b c First = a
 among a b c Second = b
 among a b c Third = c
 
+-- a token's stacks with nothing on i and on the shelves
+abbrev pub stacked : List Letter → List DataCell → Stacks
+stacked s d = record { letters = s; iters = []; datas = d; shelves = replicate 64 [] }
+
+-- the token's table has a row for what comes to the port, by which it leaves so
+pub record Acts (κ : Kind) (p : Port) (v : ℕ) (s : Stacks) (o : Port) (t : Stacks) : Type 0 where
+  pub row : Row
+  pub found : rowFor (Some κ) p v s ≡ Some row
+  pub exit : row .exit ≡ o
+  pub change : changed (row .change) v s ≡ t
+
+-- a question at a successor puts one more on d, and its answer there adds one
+abbrev pub deeper : Option Kind → List DataCell → List DataCell
+deeper None d = d
+deeper (Some Root) d = d
+deeper (Some Number) d = d
+deeper (Some Successor) d = dat.Question ∷ d
+deeper (Some Multiplexer) d = d
+deeper (Some Iterator) d = d
+deeper (Some LeftCounter) d = d
+deeper (Some RightCounter) d = d
+deeper (Some Transfer) d = d
+
+abbrev pub raised : Option Kind → ℕ → ℕ
+raised None a = a
+raised (Some Root) a = a
+raised (Some Number) a = a
+raised (Some Successor) a = a + 1
+raised (Some Multiplexer) a = a
+raised (Some Iterator) a = a
+raised (Some LeftCounter) a = a
+raised (Some RightCounter) a = a
+raised (Some Transfer) a = a
+
+-- the token with the question crosses the node, and crosses it back with the answer
+pub record Crosses (κ : Kind) (p : Port) (s : List Letter) (o : Port × List Letter) : Type 0 where
+  pub out : (v : ℕ) (d : List DataCell) → Acts κ p v (stacked s (dat.Question ∷ d)) (o .0) (stacked (o .1) (dat.Question ∷ deeper (Some κ) d))
+  pub back : (v : ℕ) (d : List DataCell) (a : ℕ) → Acts κ (o .0) v (stacked (o .1) (dat.Number a ∷ deeper (Some κ) d)) p (stacked s (dat.Number (raised (Some κ) a) ∷ d))
+
 -- the question leaves by a port that the node has, as a question of the wire there
-pub record Leaves (κ : Kind) (a b c : Label) (o : Port × List Letter) : Type 0 where
+pub record Leaves (κ : Kind) (a b c : Label) (p : Port) (s : List Letter) (o : Port × List Letter) : Type 0 where
   pub owned : offset (o .0) < arity κ
   pub asks : Asks (flip (among a b c (o .0))) (o .1)
+  pub crosses : Crosses κ p s o
+
+acts : {κ : Kind} {p : Port} {v : ℕ} {s : Stacks} (r : Row) → rowFor (Some κ) p v s ≡ Some r → Acts κ p v s (r .exit) (changed (r .change) v s)
+acts r e = record { row = r; found = e; exit = refl; change = refl }
+
+at-succ : (s : List Letter) → Crosses Successor Second s (First, s)
+unfolding rowFor
+at-succ s = record { out = λ v d. acts _ refl; back = λ v d a. acts _ refl }
+
+at-second : (s : List Letter) → Crosses Multiplexer Second s (First, Left ∷ s)
+unfolding rowFor
+at-second s = record { out = λ v d. acts _ refl; back = λ v d a. acts _ refl }
+
+at-third : (s : List Letter) → Crosses Multiplexer Third s (First, Right ∷ s)
+unfolding rowFor
+at-third s = record { out = λ v d. acts _ refl; back = λ v d a. acts _ refl }
+
+at-left : (s : List Letter) → Crosses Multiplexer First (Left ∷ s) (Second, s)
+unfolding rowFor
+at-left s = record { out = λ v d. acts _ refl; back = λ v d a. acts _ refl }
+
+at-right : (s : List Letter) → Crosses Multiplexer First (Right ∷ s) (Third, s)
+unfolding rowFor
+at-right s = record { out = λ v d. acts _ refl; back = λ v d a. acts _ refl }
+
+-- a number answers the question with its value, and sends it back
+pub answers : (v : ℕ) (s : List Letter) (d : List DataCell) → Acts Number First v (stacked s (dat.Question ∷ d)) First (stacked s (dat.Number v ∷ d))
+unfolding rowFor
+answers v s d = acts _ refl
 
 module _ (x : Sign) (A : Ty) (s : List Letter) where
   -- at the other end of the wire that leaves by a port of the opposite sign
@@ -92,25 +167,25 @@ module _ (x : Sign) (A : Ty) (s : List Letter) where
   arrives b e h = subst (λ b. Asks b s) e h
 
 -- a question passes every node but a number
-pub passes : (κ : Kind) (a b c : Label) → Fits κ a b c → Plain κ → isNumber (Some κ) ≡ false → (p : Port) → offset p < arity κ → (s : List Letter) → Asks (among a b c p) s → Leaves κ a b c (across (Some κ) p s)
+pub passes : (κ : Kind) (a b c : Label) → Fits κ a b c → Plain κ → isNumber (Some κ) ≡ false → (p : Port) → offset p < arity κ → (s : List Letter) → Asks (among a b c p) s → Leaves κ a b c p s (across (Some κ) p s)
 passes Root a b c at-root w e First h s q = absurd (no-question s q)
 passes Root a b c at-root w e Second h s q = absurd (omega arith)
 passes Root a b c at-root w e Third h s q = absurd (omega arith)
 passes Number a b c at-number w e p h s q = let z : _≡_ {A = ℕ} 0 1 = cc in absurd (omega arith)
 passes Successor a b c at-successor w e First h s q = absurd (no-question s q)
-passes Successor a b c at-successor w e Second h s q = record { owned = omega arith; asks = q }
+passes Successor a b c at-successor w e Second h s q = record { owned = omega arith; asks = q; crosses = at-succ s }
 passes Successor a b c at-successor w e Third h s q = absurd (omega arith)
 passes Multiplexer a b c (at-function i) w e First h [] q = absurd q
-passes Multiplexer a b c (at-function {s = x} {U = U} i) w e First h (Left ∷ s) q = record { owned = omega arith; asks = same x U s b i q }
-passes Multiplexer a b c (at-function i) w e First h (Right ∷ s) q = record { owned = omega arith; asks = q }
-passes Multiplexer a b c (at-function {s = x} {U = U} i) w e Second h s q = record { owned = omega arith; asks = arrives x U s b i q }
+passes Multiplexer a b c (at-function {s = x} {U = U} i) w e First h (Left ∷ s) q = record { owned = omega arith; asks = same x U s b i q; crosses = at-left s }
+passes Multiplexer a b c (at-function i) w e First h (Right ∷ s) q = record { owned = omega arith; asks = q; crosses = at-right s }
+passes Multiplexer a b c (at-function {s = x} {U = U} i) w e Second h s q = record { owned = omega arith; asks = arrives x U s b i q; crosses = at-second s }
 passes Multiplexer a b c (at-function {s = x} {T = T} i) w e Third h s q =
-    record { owned = omega arith; asks = subst (λ y. Leads T y s plus) (sym (twice-opposite x)) q }
+    record { owned = omega arith; asks = subst (λ y. Leads T y s plus) (sym (twice-opposite x)) q; crosses = at-third s }
 passes Multiplexer a b c (at-pair i j) w e First h [] q = absurd q
-passes Multiplexer a b c (at-pair {s = x} {T = T} i j) w e First h (Left ∷ s) q = record { owned = omega arith; asks = same x T s b i q }
-passes Multiplexer a b c (at-pair {s = x} {U = U} i j) w e First h (Right ∷ s) q = record { owned = omega arith; asks = same x U s c j q }
-passes Multiplexer a b c (at-pair {s = x} {T = T} i j) w e Second h s q = record { owned = omega arith; asks = arrives x T s b i q }
-passes Multiplexer a b c (at-pair {s = x} {U = U} i j) w e Third h s q = record { owned = omega arith; asks = arrives x U s c j q }
+passes Multiplexer a b c (at-pair {s = x} {T = T} i j) w e First h (Left ∷ s) q = record { owned = omega arith; asks = same x T s b i q; crosses = at-left s }
+passes Multiplexer a b c (at-pair {s = x} {U = U} i j) w e First h (Right ∷ s) q = record { owned = omega arith; asks = same x U s c j q; crosses = at-right s }
+passes Multiplexer a b c (at-pair {s = x} {T = T} i j) w e Second h s q = record { owned = omega arith; asks = arrives x T s b i q; crosses = at-second s }
+passes Multiplexer a b c (at-pair {s = x} {U = U} i j) w e Third h s q = record { owned = omega arith; asks = arrives x U s c j q; crosses = at-third s }
 passes Iterator a b c at-iterator w e p h s q = absurd w
 passes LeftCounter a b c at-left-counter w e p h s q = absurd w
 passes RightCounter a b c at-right-counter w e p h s q = absurd w

@@ -15,9 +15,11 @@ use Rattle.cells.specs.declared.kinds.Port.{Port}
 use Rattle.cells.specs.declared.kinds.Port.the-variants.{First, Second, Third}
 use Rattle.cells.specs.Ports.{Node, nodeAt, arity, offset, portAt, placeOf, inside, link}
 use Rattle.cells.specs.Sound.{Below, Has, Mutual, Sound}
+use Rattle.token.specs.declared.memory.Letter.{Letter}
 use Rattle.geometry.specs.Labels.{Label, on, flip, Fits, at-root, Labelled, networkWeight, successorNodes, Plain, AllPlain}
-use Rattle.homecoming.proofs.Leaves.{Letter, Asks, no-question}
-use Rattle.homecoming.proofs.Nodes.{isNumber, isSuccessor, across, across-twice, among, Leaves, passes, not-root, at-successor-node}
+use Rattle.homecoming.specs.Home.{Network}
+use Rattle.homecoming.proofs.Leaves.{Asks, no-question}
+use Rattle.homecoming.proofs.Nodes.{isNumber, isSuccessor, across, across-twice, among, Crosses, Leaves, passes, not-root, at-successor-node}
 use Rattle.homecoming.proofs.Pigeonhole.{In, count, count-all, few-in, Least, least}
 use Rattle.homecoming.proofs.Numbering.{offset-of, port-again, node-of, part-of, place-of, inside-low, inside-is}
 use Rattle.homecoming.proofs.Questions.{Position, Question, questions, questions-length, question-in, successorList, successorList-length, successor-in}
@@ -68,7 +70,7 @@ nonempty (n ∷ ns) e = omega arith
 root-asks : (a b c : Label) → Fits Root a b c → Asks (flip a) []
 root-asks a b c at-root = refl
 
-same-kind : {κ ι : Kind} → Some κ ≡ Some ι → κ ≡ ι
+pub same-kind : {κ ι : Kind} → Some κ ≡ Some ι → κ ≡ ι
 same-kind e = cc
 
 successor-kind : (o : Option Kind) → isSuccessor o ≡ true → o ≡ Some Successor
@@ -82,14 +84,18 @@ successor-kind (Some LeftCounter) e = let z : _≡_ {A = ℕ} 0 1 = cc in absurd
 successor-kind (Some RightCounter) e = let z : _≡_ {A = ℕ} 0 1 = cc in absurd (omega arith)
 successor-kind (Some Transfer) e = let z : _≡_ {A = ℕ} 0 1 = cc in absurd (omega arith)
 
--- a network of plain kinds whose ports are numbered below the absent one's number
-pub record Given (ns : List Node) (label : ℕ → Label) : Type 0 where
-  pub sound : Sound ns
-  pub labelled : Labelled ns label
-  pub plain : AllPlain ns
-  pub numbered : 3 * length ns ≤ 4294967295
+pub number-kind : (o : Option Kind) → isNumber o ≡ true → o ≡ Some Number
+number-kind None e = let z : _≡_ {A = ℕ} 0 1 = cc in absurd (omega arith)
+number-kind (Some Root) e = let z : _≡_ {A = ℕ} 0 1 = cc in absurd (omega arith)
+number-kind (Some Number) e = refl
+number-kind (Some Successor) e = let z : _≡_ {A = ℕ} 0 1 = cc in absurd (omega arith)
+number-kind (Some Multiplexer) e = let z : _≡_ {A = ℕ} 0 1 = cc in absurd (omega arith)
+number-kind (Some Iterator) e = let z : _≡_ {A = ℕ} 0 1 = cc in absurd (omega arith)
+number-kind (Some LeftCounter) e = let z : _≡_ {A = ℕ} 0 1 = cc in absurd (omega arith)
+number-kind (Some RightCounter) e = let z : _≡_ {A = ℕ} 0 1 = cc in absurd (omega arith)
+number-kind (Some Transfer) e = let z : _≡_ {A = ℕ} 0 1 = cc in absurd (omega arith)
 
-module _ (ns : List Node) (label : ℕ → Label) (g : Given ns label) where
+module _ (ns : List Node) (label : ℕ → Label) (g : Network ns label) where
   -- what is known of the node of a question's port
   pub record Place (p : ℕ) (s : List Letter) : Type 0 where
     pub low : p / 3 < length ns
@@ -116,7 +122,7 @@ module _ (ns : List Node) (label : ℕ → Label) (g : Given ns label) where
 
   has-port : (k : ℕ) (κ : Kind) → k < length ns → nodeAt ns k .kind ≡ Some κ → (q : Port) → offset q < arity κ → Has ns (portAt k q)
   has-port k κ h e q o =
-      let small = g .numbered in
+      let small = g .few in
       let node = node-of k q in
       record
       { lies = inside-is ns (portAt k q) (omega arith) (omega arith)
@@ -128,6 +134,9 @@ module _ (ns : List Node) (label : ℕ → Label) (g : Given ns label) where
   pub record Out (x : Position) : Type 0 where
     pub has : Has ns (over ns x .0)
     pub asks : Asks (flip (label (over ns x .0))) (over ns x .1)
+    pub kind : Kind
+    pub is : kindAt ns (x .0) ≡ Some kind
+    pub crosses : Crosses kind (placeOf (x .0)) (x .1) (across (kindAt ns (x .0)) (placeOf (x .0)) (x .1))
 
   pub out : (x : Position) → Question ns label x → isNumber (kindAt ns (x .0)) ≡ false → Out x
   out x q e =
@@ -135,13 +144,16 @@ module _ (ns : List Node) (label : ℕ → Label) (g : Given ns label) where
       let k = p / 3 in
       let a = at x q in
       let κ = a .kind in
-      let l : Leaves κ (label (3 * k)) (label (3 * k + 1)) (label (3 * k + 2)) (across (kindAt ns p) (placeOf p) (x .1))
-            = subst (λ o. Leaves κ (label (3 * k)) (label (3 * k + 1)) (label (3 * k + 2)) (across o (placeOf p) (x .1))) (sym (a .is))
+      let l : Leaves κ (label (3 * k)) (label (3 * k + 1)) (label (3 * k + 2)) (placeOf p) (x .1) (across (kindAt ns p) (placeOf p) (x .1))
+            = subst (λ o. Leaves κ (label (3 * k)) (label (3 * k + 1)) (label (3 * k + 2)) (placeOf p) (x .1) (across o (placeOf p) (x .1))) (sym (a .is))
                 (passes κ _ _ _ (a .fits) (g .plain k κ (a .is)) (subst (λ o. isNumber o ≡ false) (a .is) e) (placeOf p) (a .owned) (x .1) (a .asks)) in
       let q = across (kindAt ns p) (placeOf p) (x .1) .0 in
       record
       { has = has-port k κ (a .low) (a .is) q (l .owned)
       ; asks = subst (λ b. Asks (flip b) (over ns x .1)) (among-label label k q) (l .asks)
+      ; kind = κ
+      ; is = a .is
+      ; crosses = l .crosses
       }
 
   pub onward-asks : (x : Position) → Question ns label x → isNumber (kindAt ns (x .0)) ≡ false → Question ns label (onward ns x)

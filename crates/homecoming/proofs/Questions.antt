@@ -12,8 +12,10 @@ use Rattle.cells.specs.declared.kinds.Kind.the-variants.{Root, Number, Successo
 use Rattle.cells.specs.Ports.{Node, nodeAt, arity, inside, link}
 use Rattle.cells.specs.Sound.{Below, Has, Mutual, Sound}
 use Rattle.calculus.specs.Types.{Ty, N, _⇒_, _⊗_, naturals}
+use Rattle.token.specs.declared.memory.Letter.{Letter}
+use Rattle.token.specs.declared.memory.Letter.the-variants.{Left, Right}
 use Rattle.geometry.specs.Labels.{Sign, plus, minus, opposite, Label, on, flip, Labelled, produced, nodeWeight, weightFrom, networkWeight, successorsAt, successorNodes}
-use Rattle.homecoming.proofs.Leaves.{Letter, Left, Right, Leads, Asks, leads-flip}
+use Rattle.homecoming.proofs.Leaves.{Leads, Asks, leads-flip}
 use Rattle.homecoming.proofs.Pigeonhole.{In, in-left, in-right}
 use Rattle.homecoming.proofs.Numbering.{inside-low}
 
