@@ -228,3 +228,33 @@ module _ (ns : List Node) (label : ℕ → Label) (rs : Rooms) (g : Network ns l
         ; way = go-first next _ _ (passes-out x q f d r t) (suc (suc (double k)))
             ∙ go-last next (suc (double k)) _ _ _ (b .way) (passes-back x q f d r t a (omega arith) (omega arith))
         }
+
+  -- the opening is the token with the question at the first position
+  opening : 1 ≤ rs .datas → opened ns rs dat.Question ≡ asking (orbit ns 0) (dat.Question ∷ [])
+  opening h =
+      let m = g .sound .linked 0 (root-has ns label g) in
+      let some : eqb (rs .datas) 0 ≡ false = grind (arith, tells) in
+      let to-link : entrance ns ≡ link ns 0 = ap (λ b. cond b (link ns 0) 0) (m .there .lies) in
+      let cell : cond (eqb (rs .datas) 0) [] (dat.Question ∷ []) ≡ dat.Question ∷ [] = ap (λ b. cond b [] (dat.Question ∷ [])) some in
+      ap₂ (λ p d. stands ns rs 0 p (stacked [] d)) to-link cell ∙ ap (λ f. stands ns rs f (link ns 0) (stacked [] (dat.Question ∷ []))) (sym (m .back))
+
+  pub comes-home : Suffices ns label rs → Home ns label rs
+  comes-home memory =
+      let met = number-met ns label g in
+      let j = met .at in
+      let b = back memory j (met .not-before) (met .here) j 0 (omega arith) [] refl in
+      let m = g .sound .linked 0 (root-has ns label g) in
+      let twice = double-is j in
+      let below = met .below in
+      let cells = memory .datas in
+      record
+      { number = b .number
+      ; steps = suc (double j)
+      ; distance = record
+          { home = stands ns rs (link ns 0) 0 (stacked [] (dat.Number (b .number) ∷ []))
+          ; reached = ap (go next (suc (double j))) (opening (omega arith)) ∙ b .way ∙ ap (λ p. to (stands ns rs (link ns 0) p (stacked [] (dat.Number (b .number) ∷ [])))) (m .back)
+          ; brings = refl
+          }
+      ; odd = omega arith
+      ; soon = omega arith
+      }
