@@ -6,3 +6,4 @@ pub mod Questions
 pub mod Orbit
 pub mod Steps
 pub mod Way
+pub mod Example
