@@ -1,24 +1,19 @@
 -- S 3 and its network, port by port.
-use mathlib.Core.Path.{_≡_, refl, sym, ap, _∙_, subst}
-use mathlib.Core.Bool.{Bool, true, false}
-use mathlib.Core.List.{List, [], _∷_}
-use Prim.Native.Nat.{ℕ, zero, suc, _+_, _*_, _/_, _%_, _≤_, _<_}
+use mathlib.Core.Path.{_≡_, refl, subst}
+use Prim.Native.Nat.{ℕ, zero, suc, _+_, _*_, _/_, _≤_, _<_}
 use native.Mathlib.Omega.{arith}
-use lib.ListN.{length}
-use Rattle.std.specs.declared.option.Option.{Option}
-use Rattle.std.specs.declared.option.Option.the-variants.{Some, None}
+use Rattle.std.specs.declared.option.Option.the-variants.{Some}
 use Rattle.cells.specs.declared.kinds.Kind.{Kind}
-use Rattle.cells.specs.declared.kinds.Kind.the-variants.{Root, Number, Successor, Multiplexer, Iterator, LeftCounter, RightCounter, Transfer}
-use Rattle.cells.specs.Ports.{Node, nodeAt, absent, inside, link, linked}
-use Rattle.cells.specs.Sound.{Has, Mutual, Sound, Valued}
-use Rattle.calculus.specs.Types.{N, height}
-use Rattle.geometry.specs.Labels.{Label, on, plus, minus, flip, typeOf, Fits, at-root, at-number, at-successor, Labelled, Plain, AllPlain, NoHigher}
+use Rattle.cells.specs.declared.kinds.Kind.the-variants.{Root, Number, Successor}
+use Rattle.cells.specs.Ports.{nodeAt, absent, inside, link, linked}
+use Rattle.cells.specs.Sound.{Has, Mutual, Valued}
+use Rattle.geometry.specs.Labels.{flip, Fits, at-root, at-number, at-successor, Plain}
 use Rattle.machine.specs.Steps.{go}
 use Rattle.token.specs.Next.{next, rowFor}
-use Rattle.homecoming.specs.Home.{SmallNumbers, Network, Suffices, Distance}
+use Rattle.homecoming.specs.Home.{Distance}
 use Rattle.homecoming.specs.Example.{nodes, label, rooms, Met}
 use Rattle.homecoming.proofs.Numbering.{inside-low}
-use Rattle.homecoming.proofs.Orbit.{same-kind}
+use Rattle.homecoming.proofs.Nodes.{same-kind}
 
 -- the ports by number, and that there are no others
 pub data Which : ℕ → Type 0 where

@@ -1,13 +1,13 @@
 -- Letters choose parts of a type, and lead from its root to one of its Ns.
 use mathlib.Core.Path.{_≡_, refl, ap}
 use mathlib.Core.List.{List, [], _∷_}
-use Prim.Native.Nat.{ℕ, suc, _≤_, max}
+use Prim.Native.Nat.{ℕ, _≤_}
 use native.Mathlib.Omega.{arith}
 use lib.ListN.{length}
 use Rattle.calculus.specs.Types.{Ty, N, _⇒_, _⊗_, height}
 use Rattle.token.specs.declared.memory.Letter.{Letter}
 use Rattle.token.specs.declared.memory.Letter.the-variants.{Left, Right}
-use Rattle.geometry.specs.Labels.{Sign, plus, minus, opposite, Label, on, flip, typeOf}
+use Rattle.geometry.specs.Labels.{Sign, plus, minus, opposite, Label, on, typeOf}
 
 -- from a root of sign x the letters lead to an N of sign y: the argument of a function has the opposite sign
 abbrev pub Leads : Ty → Sign → List Letter → Sign → Type 0

@@ -1,49 +1,51 @@
 -- What a question does at one node, by the node's kind.
-use mathlib.Core.Path.{_≡_, refl, sym, subst}
-use mathlib.Core.Bool.{Bool, true, false}
+use mathlib.Core.Path.{_≡_, refl, sym, ap, _∙_, subst}
+use mathlib.Core.Bool.{Bool, true, false, cond}
 use mathlib.Core.List.{List, [], _∷_}
-use Prim.Native.Nat.{ℕ, zero, suc, _+_, _<_}
+use Prim.Native.Nat.{ℕ, _+_, _<_}
 use native.Mathlib.Omega.{arith}
+use lib.Dec.{eqb}
 use lib.ListN.{replicate}
+use Rattle.std.proofs.shelf.Ways.{tells}
 use Rattle.std.specs.declared.option.Option.{Option}
 use Rattle.std.specs.declared.option.Option.the-variants.{Some, None}
 use Rattle.cells.specs.declared.kinds.Kind.{Kind}
 use Rattle.cells.specs.declared.kinds.Kind.the-variants.{Root, Number, Successor, Multiplexer, Iterator, LeftCounter, RightCounter, Transfer}
 use Rattle.cells.specs.declared.kinds.Port.{Port}
 use Rattle.cells.specs.declared.kinds.Port.the-variants.{First, Second, Third}
-use Rattle.cells.specs.Ports.{arity, offset}
-use Rattle.cells.specs.Sound.{Below}
-use Rattle.calculus.specs.Types.{Ty, N, _⇒_, _⊗_}
+use Rattle.cells.specs.Ports.{kindNumber, kindOf, arity, offset}
+use Rattle.calculus.specs.Types.{Ty}
 use Rattle.token.specs.declared.memory.Letter.{Letter}
 use Rattle.token.specs.declared.memory.Letter.the-variants.{Left, Right}
 use Rattle.token.specs.declared.memory.DataCell.{DataCell}
 use Rattle.token.specs.declared.memory.DataCell.the-variants as dat
 use Rattle.token.specs.Table.{Stacks, Row, changed}
 use Rattle.token.specs.Next.{rowFor}
-use Rattle.geometry.specs.Labels.{Sign, plus, minus, opposite, Label, on, flip, Fits, at-root, at-number, at-successor, at-function, at-pair, at-iterator, at-left-counter, at-right-counter, at-transfer, Plain}
+use Rattle.geometry.specs.Labels.{Sign, plus, opposite, Label, on, flip, Fits, at-root, at-number, at-successor, at-function, at-pair, at-iterator, at-left-counter, at-right-counter, at-transfer, Plain}
 use Rattle.homecoming.proofs.Leaves.{Leads, Asks, twice-opposite, no-question}
 
-abbrev pub isNumber : Option Kind → Bool
-isNumber None = false
-isNumber (Some Root) = false
-isNumber (Some Number) = true
-isNumber (Some Successor) = false
-isNumber (Some Multiplexer) = false
-isNumber (Some Iterator) = false
-isNumber (Some LeftCounter) = false
-isNumber (Some RightCounter) = false
-isNumber (Some Transfer) = false
+abbrev pub isKind : Kind → Option Kind → Bool
+isKind κ None = false
+isKind κ (Some ι) = eqb (kindNumber κ) (kindNumber ι)
 
-abbrev pub isSuccessor : Option Kind → Bool
-isSuccessor None = false
-isSuccessor (Some Root) = false
-isSuccessor (Some Number) = false
-isSuccessor (Some Successor) = true
-isSuccessor (Some Multiplexer) = false
-isSuccessor (Some Iterator) = false
-isSuccessor (Some LeftCounter) = false
-isSuccessor (Some RightCounter) = false
-isSuccessor (Some Transfer) = false
+kind-again : (κ : Kind) → kindOf (kindNumber κ) ≡ Some κ
+kind-again Root = refl
+kind-again Number = refl
+kind-again Successor = refl
+kind-again Multiplexer = refl
+kind-again Iterator = refl
+kind-again LeftCounter = refl
+kind-again RightCounter = refl
+kind-again Transfer = refl
+
+pub is-kind : (κ : Kind) (o : Option Kind) → isKind κ o ≡ true → o ≡ Some κ
+is-kind κ None e = let z : _≡_ {A = ℕ} 0 1 = cc in absurd (omega arith)
+is-kind κ (Some ι) e =
+    let same : kindNumber ι ≡ kindNumber κ = grind (arith, tells) in
+    sym (kind-again ι) ∙ ap kindOf same ∙ kind-again κ
+
+pub same-kind : {κ ι : Kind} → Some κ ≡ Some ι → κ ≡ ι
+same-kind e = cc
 
 -- the port by which what comes to a port leaves, and the letters then; the same way leads back
 abbrev pub across : Option Kind → Port → List Letter → Port × List Letter
@@ -98,26 +100,10 @@ pub record Acts (κ : Kind) (p : Port) (v : ℕ) (s : Stacks) (o : Port) (t : St
 
 -- a question at a successor puts one more on d, and its answer there adds one
 abbrev pub deeper : Option Kind → List DataCell → List DataCell
-deeper None d = d
-deeper (Some Root) d = d
-deeper (Some Number) d = d
-deeper (Some Successor) d = dat.Question ∷ d
-deeper (Some Multiplexer) d = d
-deeper (Some Iterator) d = d
-deeper (Some LeftCounter) d = d
-deeper (Some RightCounter) d = d
-deeper (Some Transfer) d = d
+deeper o d = cond (isKind Successor o) (dat.Question ∷ d) d
 
 abbrev pub raised : Option Kind → ℕ → ℕ
-raised None a = a
-raised (Some Root) a = a
-raised (Some Number) a = a
-raised (Some Successor) a = a + 1
-raised (Some Multiplexer) a = a
-raised (Some Iterator) a = a
-raised (Some LeftCounter) a = a
-raised (Some RightCounter) a = a
-raised (Some Transfer) a = a
+raised o a = cond (isKind Successor o) (a + 1) a
 
 -- the token with the question crosses the node, and crosses it back with the answer
 pub record Crosses (κ : Kind) (p : Port) (s : List Letter) (o : Port × List Letter) : Type 0 where
@@ -167,7 +153,7 @@ module _ (x : Sign) (A : Ty) (s : List Letter) where
   arrives b e h = subst (λ b. Asks b s) e h
 
 -- a question passes every node but a number
-pub passes : (κ : Kind) (a b c : Label) → Fits κ a b c → Plain κ → isNumber (Some κ) ≡ false → (p : Port) → offset p < arity κ → (s : List Letter) → Asks (among a b c p) s → Leaves κ a b c p s (across (Some κ) p s)
+pub passes : (κ : Kind) (a b c : Label) → Fits κ a b c → Plain κ → isKind Number (Some κ) ≡ false → (p : Port) → offset p < arity κ → (s : List Letter) → Asks (among a b c p) s → Leaves κ a b c p s (across (Some κ) p s)
 passes Root a b c at-root w e First h s q = absurd (no-question s q)
 passes Root a b c at-root w e Second h s q = absurd (omega arith)
 passes Root a b c at-root w e Third h s q = absurd (omega arith)

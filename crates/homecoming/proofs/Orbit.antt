@@ -1,25 +1,24 @@
 -- The positions that a question goes through, from the root's link to a number.
 use mathlib.Core.Path.{_≡_, refl, sym, ap, _∙_, subst}
 use mathlib.Core.Bool.{Bool, true, false}
-use mathlib.Core.Logic.{_⊎_, inl, inr}
+use mathlib.Core.Logic.{inl, inr}
 use mathlib.Core.List.{List, [], _∷_}
 use Prim.Native.Nat.{ℕ, zero, suc, _+_, _*_, _/_, _%_, _≤_, _<_}
 use native.Mathlib.Omega.{arith}
-use native.Mathlib.Decide.{decLt}
 use lib.ListN.{length}
 use Rattle.std.specs.declared.option.Option.{Option}
-use Rattle.std.specs.declared.option.Option.the-variants.{Some, None}
+use Rattle.std.specs.declared.option.Option.the-variants.{Some}
 use Rattle.cells.specs.declared.kinds.Kind.{Kind}
-use Rattle.cells.specs.declared.kinds.Kind.the-variants.{Root, Number, Successor, Multiplexer, Iterator, LeftCounter, RightCounter, Transfer}
+use Rattle.cells.specs.declared.kinds.Kind.the-variants.{Root, Number, Successor}
 use Rattle.cells.specs.declared.kinds.Port.{Port}
 use Rattle.cells.specs.declared.kinds.Port.the-variants.{First, Second, Third}
-use Rattle.cells.specs.Ports.{Node, nodeAt, arity, offset, portAt, placeOf, inside, link}
-use Rattle.cells.specs.Sound.{Below, Has, Mutual, Sound}
+use Rattle.cells.specs.Ports.{Node, nodeAt, arity, offset, portAt, placeOf, link}
+use Rattle.cells.specs.Sound.{Below, Has}
 use Rattle.token.specs.declared.memory.Letter.{Letter}
-use Rattle.geometry.specs.Labels.{Label, on, flip, Fits, at-root, Labelled, networkWeight, successorNodes, Plain, AllPlain}
+use Rattle.geometry.specs.Labels.{Label, flip, Fits, at-root, networkWeight, successorNodes}
 use Rattle.homecoming.specs.Home.{Network}
-use Rattle.homecoming.proofs.Leaves.{Asks, no-question}
-use Rattle.homecoming.proofs.Nodes.{isNumber, isSuccessor, across, across-twice, among, Crosses, Leaves, passes, not-root, at-successor-node}
+use Rattle.homecoming.proofs.Leaves.{Asks}
+use Rattle.homecoming.proofs.Nodes.{isKind, is-kind, same-kind, across, across-twice, among, Crosses, Leaves, passes, not-root, at-successor-node}
 use Rattle.homecoming.proofs.Pigeonhole.{In, count, count-all, few-in, Least, least}
 use Rattle.homecoming.proofs.Numbering.{offset-of, port-again, node-of, part-of, place-of, inside-low, inside-is}
 use Rattle.homecoming.proofs.Questions.{Position, Question, questions, questions-length, question-in, successorList, successorList-length, successor-in}
@@ -70,31 +69,6 @@ nonempty (n ∷ ns) e = omega arith
 root-asks : (a b c : Label) → Fits Root a b c → Asks (flip a) []
 root-asks a b c at-root = refl
 
-pub same-kind : {κ ι : Kind} → Some κ ≡ Some ι → κ ≡ ι
-same-kind e = cc
-
-successor-kind : (o : Option Kind) → isSuccessor o ≡ true → o ≡ Some Successor
-successor-kind None e = let z : _≡_ {A = ℕ} 0 1 = cc in absurd (omega arith)
-successor-kind (Some Root) e = let z : _≡_ {A = ℕ} 0 1 = cc in absurd (omega arith)
-successor-kind (Some Number) e = let z : _≡_ {A = ℕ} 0 1 = cc in absurd (omega arith)
-successor-kind (Some Successor) e = refl
-successor-kind (Some Multiplexer) e = let z : _≡_ {A = ℕ} 0 1 = cc in absurd (omega arith)
-successor-kind (Some Iterator) e = let z : _≡_ {A = ℕ} 0 1 = cc in absurd (omega arith)
-successor-kind (Some LeftCounter) e = let z : _≡_ {A = ℕ} 0 1 = cc in absurd (omega arith)
-successor-kind (Some RightCounter) e = let z : _≡_ {A = ℕ} 0 1 = cc in absurd (omega arith)
-successor-kind (Some Transfer) e = let z : _≡_ {A = ℕ} 0 1 = cc in absurd (omega arith)
-
-pub number-kind : (o : Option Kind) → isNumber o ≡ true → o ≡ Some Number
-number-kind None e = let z : _≡_ {A = ℕ} 0 1 = cc in absurd (omega arith)
-number-kind (Some Root) e = let z : _≡_ {A = ℕ} 0 1 = cc in absurd (omega arith)
-number-kind (Some Number) e = refl
-number-kind (Some Successor) e = let z : _≡_ {A = ℕ} 0 1 = cc in absurd (omega arith)
-number-kind (Some Multiplexer) e = let z : _≡_ {A = ℕ} 0 1 = cc in absurd (omega arith)
-number-kind (Some Iterator) e = let z : _≡_ {A = ℕ} 0 1 = cc in absurd (omega arith)
-number-kind (Some LeftCounter) e = let z : _≡_ {A = ℕ} 0 1 = cc in absurd (omega arith)
-number-kind (Some RightCounter) e = let z : _≡_ {A = ℕ} 0 1 = cc in absurd (omega arith)
-number-kind (Some Transfer) e = let z : _≡_ {A = ℕ} 0 1 = cc in absurd (omega arith)
-
 module _ (ns : List Node) (label : ℕ → Label) (g : Network ns label) where
   -- what is known of the node of a question's port
   pub record Place (p : ℕ) (s : List Letter) : Type 0 where
@@ -138,7 +112,7 @@ module _ (ns : List Node) (label : ℕ → Label) (g : Network ns label) where
     pub is : kindAt ns (x .0) ≡ Some kind
     pub crosses : Crosses kind (placeOf (x .0)) (x .1) (across (kindAt ns (x .0)) (placeOf (x .0)) (x .1))
 
-  pub out : (x : Position) → Question ns label x → isNumber (kindAt ns (x .0)) ≡ false → Out x
+  pub out : (x : Position) → Question ns label x → isKind Number (kindAt ns (x .0)) ≡ false → Out x
   out x q e =
       let p = x .0 in
       let k = p / 3 in
@@ -146,7 +120,7 @@ module _ (ns : List Node) (label : ℕ → Label) (g : Network ns label) where
       let κ = a .kind in
       let l : Leaves κ (label (3 * k)) (label (3 * k + 1)) (label (3 * k + 2)) (placeOf p) (x .1) (across (kindAt ns p) (placeOf p) (x .1))
             = subst (λ o. Leaves κ (label (3 * k)) (label (3 * k + 1)) (label (3 * k + 2)) (placeOf p) (x .1) (across o (placeOf p) (x .1))) (sym (a .is))
-                (passes κ _ _ _ (a .fits) (g .plain k κ (a .is)) (subst (λ o. isNumber o ≡ false) (a .is) e) (placeOf p) (a .owned) (x .1) (a .asks)) in
+                (passes κ _ _ _ (a .fits) (g .plain k κ (a .is)) (subst (λ o. isKind Number o ≡ false) (a .is) e) (placeOf p) (a .owned) (x .1) (a .asks)) in
       let q = across (kindAt ns p) (placeOf p) (x .1) .0 in
       record
       { has = has-port k κ (a .low) (a .is) q (l .owned)
@@ -156,19 +130,19 @@ module _ (ns : List Node) (label : ℕ → Label) (g : Network ns label) where
       ; crosses = l .crosses
       }
 
-  pub onward-asks : (x : Position) → Question ns label x → isNumber (kindAt ns (x .0)) ≡ false → Question ns label (onward ns x)
+  pub onward-asks : (x : Position) → Question ns label x → isKind Number (kindAt ns (x .0)) ≡ false → Question ns label (onward ns x)
   onward-asks x q e =
       let o = out x q e in
       (g .sound .linked (over ns x .0) (o .has) .there, subst (λ a. Asks a (over ns x .1)) (sym (g .labelled .ends (over ns x .0) (o .has))) (o .asks))
 
   -- the wire leads back
-  pub along-back : (x : Position) → Question ns label x → isNumber (kindAt ns (x .0)) ≡ false → along ns (onward ns x) ≡ over ns x
+  pub along-back : (x : Position) → Question ns label x → isKind Number (kindAt ns (x .0)) ≡ false → along ns (onward ns x) ≡ over ns x
   along-back x q e = ap (λ p. (p, over ns x .1)) (g .sound .linked (over ns x .0) (out x q e .has) .back)
 
-  undo : (x : Position) → Question ns label x → isNumber (kindAt ns (x .0)) ≡ false → over ns (along ns (onward ns x)) ≡ x
+  undo : (x : Position) → Question ns label x → isKind Number (kindAt ns (x .0)) ≡ false → over ns (along ns (onward ns x)) ≡ x
   undo x q e = ap (over ns) (along-back x q e) ∙ over-twice ns x
 
-  onward-injective : (x y : Position) → Question ns label x → Question ns label y → isNumber (kindAt ns (x .0)) ≡ false → isNumber (kindAt ns (y .0)) ≡ false → onward ns x ≡ onward ns y → x ≡ y
+  onward-injective : (x y : Position) → Question ns label x → Question ns label y → isKind Number (kindAt ns (x .0)) ≡ false → isKind Number (kindAt ns (y .0)) ≡ false → onward ns x ≡ onward ns y → x ≡ y
   onward-injective x y q u e f h = sym (undo x q e) ∙ ap (λ z. over ns (along ns z)) h ∙ undo y u f
 
   some-node : 0 < length ns
@@ -191,7 +165,7 @@ module _ (ns : List Node) (label : ℕ → Label) (g : Network ns label) where
       not-root _ _ _ (subst (λ κ. Fits κ (label (3 * k)) (label (3 * k + 1)) (label (3 * k + 2))) e (a .fits)) (placeOf (x .0))
       (subst (λ κ. offset (placeOf (x .0)) < arity κ) e (a .owned)) (x .1) (a .asks)
 
-  not-before : (x : Position) → Question ns label x → isNumber (kindAt ns (x .0)) ≡ false → orbit ns 0 ≡ onward ns x → ⊥
+  not-before : (x : Position) → Question ns label x → isKind Number (kindAt ns (x .0)) ≡ false → orbit ns 0 ≡ onward ns x → ⊥
   not-before x q e h =
       let same : 0 ≡ over ns x .0 = sym (g .sound .linked 0 root-has .back) ∙ ap (λ z. along ns z .0) h ∙ ap (λ z. z .0) (along-back x q e) in
       let node = node-of (x .0 / 3) (across (kindAt ns (x .0)) (placeOf (x .0)) (x .1) .0) in
@@ -199,7 +173,7 @@ module _ (ns : List Node) (label : ℕ → Label) (g : Network ns label) where
 
   -- no number is met before the m-th position
   abbrev pub Going : ℕ → Type 0
-  Going m = (i : ℕ) → i < m → isNumber (kindAt ns (orbit ns i .0)) ≡ false
+  Going m = (i : ℕ) → i < m → isKind Number (kindAt ns (orbit ns i .0)) ≡ false
 
   pub orbit-asks : (m : ℕ) → Going m → (i : ℕ) → i ≤ m → Question ns label (orbit ns i)
   orbit-asks m going zero h = opening-asks
@@ -224,17 +198,17 @@ module _ (ns : List Node) (label : ℕ → Label) (g : Network ns label) where
       let all = count-all (suc w) in
       omega arith
 
-  pub number-met : Least (λ i. isNumber (kindAt ns (orbit ns i .0))) (networkWeight label ns)
-  number-met = elim (least (λ i. isNumber (kindAt ns (orbit ns i .0))) (networkWeight label ns)) [ inl f ↦ f | inr n ↦ absurd (stops n) ]
+  pub number-met : Least (λ i. isKind Number (kindAt ns (orbit ns i .0))) (networkWeight label ns)
+  number-met = elim (least (λ i. isKind Number (kindAt ns (orbit ns i .0))) (networkWeight label ns)) [ inl f ↦ f | inr n ↦ absurd (stops n) ]
 
   abbrev pub passesSuccessor : ℕ → Bool
-  passesSuccessor i = isSuccessor (kindAt ns (orbit ns i .0))
+  passesSuccessor i = isKind Successor (kindAt ns (orbit ns i .0))
 
-  at-successor-is : (x : Position) → Question ns label x → isSuccessor (kindAt ns (x .0)) ≡ true → (kindAt ns (x .0) ≡ Some Successor) × (_≡_ {A = Position} (3 * (x .0 / 3) + 1, []) x)
+  at-successor-is : (x : Position) → Question ns label x → isKind Successor (kindAt ns (x .0)) ≡ true → (kindAt ns (x .0) ≡ Some Successor) × (_≡_ {A = Position} (3 * (x .0 / 3) + 1, []) x)
   at-successor-is x q e =
       let a = at x q in
       let k = x .0 / 3 in
-      let is = successor-kind (kindAt ns (x .0)) e in
+      let is = is-kind Successor (kindAt ns (x .0)) e in
       let f : a .kind ≡ Successor = same-kind (sym (a .is) ∙ is) in
       let o = at-successor-node _ _ _ (subst (λ κ. Fits κ (label (3 * k)) (label (3 * k + 1)) (label (3 * k + 2))) f (a .fits)) (placeOf (x .0))
             (subst (λ κ. offset (placeOf (x .0)) < arity κ) f (a .owned)) (x .1) (a .asks) in

@@ -1,6 +1,6 @@
 -- Positions: a port to which a question comes, with letters. A list of them all is as long as the network's weight.
 use mathlib.Core.Path.{_≡_, refl, sym, ap, _∙_, subst}
-use mathlib.Core.Bool.{Bool, true, false}
+use mathlib.Core.Bool.{Bool, true, false, cond}
 use mathlib.Core.List.{List, [], _∷_, _++_}
 use Prim.Native.Nat.{ℕ, zero, suc, _+_, _*_, _/_, _%_, _≤_, _<_}
 use native.Mathlib.Omega.{arith}
@@ -9,13 +9,14 @@ use Rattle.std.specs.declared.option.Option.{Option}
 use Rattle.std.specs.declared.option.Option.the-variants.{Some, None}
 use Rattle.cells.specs.declared.kinds.Kind.{Kind}
 use Rattle.cells.specs.declared.kinds.Kind.the-variants.{Root, Number, Successor, Multiplexer, Iterator, LeftCounter, RightCounter, Transfer}
-use Rattle.cells.specs.Ports.{Node, nodeAt, arity, inside, link}
-use Rattle.cells.specs.Sound.{Below, Has, Mutual, Sound}
+use Rattle.cells.specs.Ports.{Node, nodeAt, arity, link}
+use Rattle.cells.specs.Sound.{Below, Has, Sound}
 use Rattle.calculus.specs.Types.{Ty, N, _⇒_, _⊗_, naturals}
 use Rattle.token.specs.declared.memory.Letter.{Letter}
 use Rattle.token.specs.declared.memory.Letter.the-variants.{Left, Right}
 use Rattle.geometry.specs.Labels.{Sign, plus, minus, opposite, Label, on, flip, Labelled, produced, nodeWeight, weightFrom, networkWeight, successorsAt, successorNodes}
 use Rattle.homecoming.proofs.Leaves.{Leads, Asks, leads-flip}
+use Rattle.homecoming.proofs.Nodes.{isKind}
 use Rattle.homecoming.proofs.Pigeonhole.{In, in-left, in-right}
 use Rattle.homecoming.proofs.Numbering.{inside-low}
 
@@ -181,15 +182,7 @@ module _ (ns : List Node) (label : ℕ → Label) where
 
 -- where a question passes each successor node
 abbrev atSuccessor : Option Kind → ℕ → List Position
-atSuccessor None p = []
-atSuccessor (Some Root) p = []
-atSuccessor (Some Number) p = []
-atSuccessor (Some Successor) p = (p, []) ∷ []
-atSuccessor (Some Multiplexer) p = []
-atSuccessor (Some Iterator) p = []
-atSuccessor (Some LeftCounter) p = []
-atSuccessor (Some RightCounter) p = []
-atSuccessor (Some Transfer) p = []
+atSuccessor o p = cond (isKind Successor o) ((p, []) ∷ []) []
 
 atSuccessor-length : (o : Option Kind) (p : ℕ) → length (atSuccessor o p) ≡ successorsAt o
 atSuccessor-length None p = refl
@@ -224,3 +217,15 @@ successor-in ns k h e =
     collect-in (λ k n. atSuccessor (n .kind) (3 * k + 1)) 0 ns k (3 * k + 1, []) h
     (subst (λ j. In (atSuccessor (nodeAt ns k .kind) (3 * j + 1)) (3 * k + 1, [])) z
         (subst (λ o. In (atSuccessor o (3 * k + 1)) (3 * k + 1, [])) (sym e) (0, refl)))
+
+one-at-most : (b : Bool) (x : Position) → length (cond b (x ∷ []) []) ≤ 1
+one-at-most true x = omega arith
+one-at-most false x = omega arith
+
+pub few-successor-nodes : (ns : List Node) → successorNodes ns ≤ length ns
+few-successor-nodes [] = omega arith
+few-successor-nodes (n ∷ ns) =
+    let h = atSuccessor-length (n .kind) 0 in
+    let k = one-at-most (isKind Successor (n .kind)) (0, []) in
+    let rest = few-successor-nodes ns in
+    omega arith

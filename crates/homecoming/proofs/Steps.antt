@@ -1,28 +1,27 @@
 -- One step of the token, where its row is known and the memory suffices.
-use mathlib.Core.Path.{_≡_, refl, sym, ap, ap₂, _∙_, subst}
+use mathlib.Core.Path.{_≡_, refl, ap, ap₂, _∙_, subst}
 use mathlib.Core.Bool.{Bool, true, false, not, cond, _&&_}
 use mathlib.Core.List.{List, [], _∷_}
-use Prim.Native.Nat.{ℕ, zero, suc, _+_, _-_, _*_, _/_, _≤_, _<_}
+use Prim.Native.Nat.{ℕ, zero, suc, _-_, _/_, _≤_}
 use native.Mathlib.Omega.{arith}
-use lib.Dec.{eqb, leb}
+use lib.Dec.{eqb}
 use lib.ListN.{length, getD, replicate}
 use Rattle.std.proofs.shelf.Ways.{tells}
-use Rattle.std.specs.declared.option.Option.{Option}
-use Rattle.std.specs.declared.option.Option.the-variants.{Some, None}
+use Rattle.std.specs.declared.option.Option.the-variants.{Some}
 use Rattle.cells.specs.declared.kinds.Kind.{Kind}
 use Rattle.cells.specs.declared.kinds.Port.{Port}
-use Rattle.cells.specs.Ports.{Node, nodeAt, portAt, placeOf, inside, link, linked}
-use Rattle.cells.specs.Sound.{Has, Mutual, Sound}
+use Rattle.cells.specs.Ports.{Node, nodeAt, portAt, placeOf, link, linked}
+use Rattle.cells.specs.Sound.{Has, Sound}
 use Rattle.machine.specs.declared.reasons.Reason.{Reason}
 use Rattle.machine.specs.declared.reasons.Reason.the-variants.{Home, NoRow, Unlinked, Full, Overflow}
-use Rattle.machine.specs.Steps.{Next, to, ends, then, go}
+use Rattle.machine.specs.Steps.{Next, to, ends, then}
 use Rattle.token.specs.declared.memory.Letter.{Letter}
 use Rattle.token.specs.declared.memory.IterCell.{IterCell}
 use Rattle.token.specs.declared.memory.DataCell.{DataCell}
 use Rattle.token.specs.declared.memory.DataCell.the-variants as dat
-use Rattle.token.specs.Table.{Stacks, Row, changed, shelfOf, byData}
+use Rattle.token.specs.Table.{Stacks, Row, changed}
 use Rattle.token.specs.State.{Rooms, State}
-use Rattle.token.specs.Next.{rowFor, orNoRow, rowAt, within, small, shelfRoom, asked, leaves, next}
+use Rattle.token.specs.Next.{rowFor, orNoRow, within, small, asked, next}
 use Rattle.homecoming.proofs.Nodes.{Acts, stacked}
 
 -- the token at a port, with these stacks

@@ -2,33 +2,31 @@
 use mathlib.Core.Path.{_≡_, refl, sym, ap, ap₂, _∙_, subst}
 use mathlib.Core.Bool.{Bool, true, false, cond}
 use mathlib.Core.List.{List, [], _∷_}
-use Prim.Native.Nat.{ℕ, zero, suc, _+_, _*_, _/_, _%_, _≤_, _<_}
+use Prim.Native.Nat.{ℕ, zero, suc, _+_, _*_, _/_, _≤_, _<_}
 use native.Mathlib.Omega.{arith}
 use lib.Dec.{eqb}
 use lib.ListN.{length}
 use Rattle.std.proofs.shelf.Ways.{tells}
 use Rattle.std.specs.declared.option.Option.{Option}
-use Rattle.std.specs.declared.option.Option.the-variants.{Some, None}
 use Rattle.cells.specs.declared.kinds.Kind.{Kind}
-use Rattle.cells.specs.declared.kinds.Kind.the-variants.{Root, Number, Successor, Multiplexer, Iterator, LeftCounter, RightCounter, Transfer}
+use Rattle.cells.specs.declared.kinds.Kind.the-variants.{Number, Successor}
 use Rattle.cells.specs.declared.kinds.Port.{Port}
 use Rattle.cells.specs.declared.kinds.Port.the-variants.{First, Second, Third}
-use Rattle.cells.specs.Ports.{Node, nodeAt, arity, offset, portAt, placeOf, inside, link, linked}
-use Rattle.cells.specs.Sound.{Has, Mutual, Sound}
-use Rattle.geometry.specs.Labels.{Label, NoHigher, networkWeight, successorNodes, successorsAt}
-use Rattle.machine.specs.Steps.{Next, to, ends, then, go}
+use Rattle.cells.specs.Ports.{Node, nodeAt, arity, offset, portAt, placeOf, link, linked}
+use Rattle.geometry.specs.Labels.{Label, networkWeight, successorNodes}
+use Rattle.machine.specs.Steps.{Next, to, then, go}
 use Rattle.token.specs.declared.memory.DataCell.{DataCell}
 use Rattle.token.specs.declared.memory.DataCell.the-variants as dat
-use Rattle.token.specs.State.{Rooms, State, opened, numberOf, entrance}
+use Rattle.token.specs.State.{Rooms, State, opened, entrance}
 use Rattle.token.specs.Next.{next}
-use Rattle.homecoming.specs.Home.{Network, Suffices, Distance, Home}
+use Rattle.homecoming.specs.Home.{Network, Suffices, Home}
 use Rattle.homecoming.proofs.Leaves.{asks-height}
-use Rattle.homecoming.proofs.Nodes.{isNumber, isSuccessor, across, Acts, Crosses, stacked, deeper, raised, answers}
-use Rattle.homecoming.proofs.Pigeonhole.{bump, count, Least}
+use Rattle.homecoming.proofs.Nodes.{isKind, is-kind, same-kind, across, Acts, Crosses, stacked, deeper, raised, answers}
+use Rattle.homecoming.proofs.Pigeonhole.{bump, count}
 use Rattle.homecoming.proofs.Numbering.{port-again, node-of, place-of}
-use Rattle.homecoming.proofs.Questions.{Position, Question}
-use Rattle.homecoming.proofs.Orbit.{kindAt, over, along, onward, orbit, Place, at, Out, out, along-back, not-home, same-kind, number-kind, Going, orbit-asks, number-met, passesSuccessor, few-successors, root-has, opening-asks}
-use Rattle.homecoming.proofs.Steps.{stands, linked-out, linked-in, Held, held-question, held-number, step}
+use Rattle.homecoming.proofs.Questions.{Position, Question, few-successor-nodes}
+use Rattle.homecoming.proofs.Orbit.{kindAt, over, onward, orbit, at, Out, out, not-home, Going, orbit-asks, number-met, passesSuccessor, few-successors, root-has}
+use Rattle.homecoming.proofs.Steps.{stands, linked-out, linked-in, held-question, held-number, step}
 
 -- a step first, or a step last
 pub go-first : {S : Type 0} (f : S → Next S) (x y : S) → f x ≡ to y → (n : ℕ) → go f (suc n) x ≡ go f n y
@@ -52,43 +50,14 @@ double-is : (n : ℕ) → double n ≡ 2 * n
 double-is zero = refl
 double-is (suc n) = let h = double-is n in omega arith
 
-one-at-most : (o : Option Kind) → successorsAt o ≤ 1
-one-at-most None = omega arith
-one-at-most (Some Root) = omega arith
-one-at-most (Some Number) = omega arith
-one-at-most (Some Successor) = omega arith
-one-at-most (Some Multiplexer) = omega arith
-one-at-most (Some Iterator) = omega arith
-one-at-most (Some LeftCounter) = omega arith
-one-at-most (Some RightCounter) = omega arith
-one-at-most (Some Transfer) = omega arith
-
-few-nodes : (ns : List Node) → successorNodes ns ≤ length ns
-few-nodes [] = omega arith
-few-nodes (n ∷ ns) = let h = one-at-most (n .kind) in let k = few-nodes ns in omega arith
-
-deeper-length : (o : Option Kind) (d : List DataCell) → length (deeper o d) ≡ bump (isSuccessor o) (length d)
-deeper-length None d = refl
-deeper-length (Some Root) d = refl
-deeper-length (Some Number) d = refl
-deeper-length (Some Successor) d = refl
-deeper-length (Some Multiplexer) d = refl
-deeper-length (Some Iterator) d = refl
-deeper-length (Some LeftCounter) d = refl
-deeper-length (Some RightCounter) d = refl
-deeper-length (Some Transfer) d = refl
-
 -- what is added to the answer is taken from the stack
-raised-balance : (o : Option Kind) (a : ℕ) (d : List DataCell) → raised o a + length d ≡ a + length (deeper o d)
-raised-balance None a d = refl
-raised-balance (Some Root) a d = refl
-raised-balance (Some Number) a d = refl
-raised-balance (Some Successor) a d = omega arith
-raised-balance (Some Multiplexer) a d = refl
-raised-balance (Some Iterator) a d = refl
-raised-balance (Some LeftCounter) a d = refl
-raised-balance (Some RightCounter) a d = refl
-raised-balance (Some Transfer) a d = refl
+deeper-length : (b : Bool) (d : List DataCell) → length (cond b (dat.Question ∷ d) d) ≡ bump b (length d)
+deeper-length true d = refl
+deeper-length false d = refl
+
+raised-balance : (b : Bool) (a : ℕ) (d : List DataCell) → cond b (a + 1) a + length d ≡ a + length (cond b (dat.Question ∷ d) d)
+raised-balance true a d = omega arith
+raised-balance false a d = refl
 
 first-port : (p : Port) → offset p < 1 → p ≡ First
 first-port First h = refl
@@ -125,7 +94,7 @@ module _ (ns : List Node) (label : ℕ → Label) (rs : Rooms) (g : Network ns l
     leaves : linked ns (portAt node (placeOf (x .0))) (link ns (portAt node (placeOf (x .0)))) ≡ true
     leaves = subst (λ p. linked ns p (link ns p) ≡ true) (sym (port-again (x .0))) (linked-out ns (g .sound) (x .0) (q .0))
 
-    module _ (e : isNumber kind ≡ false) (d : List DataCell) (r : Room x d) (t : Room (onward ns x) (deeper kind d)) where
+    module _ (e : isKind Number kind ≡ false) (d : List DataCell) (r : Room x d) (t : Room (onward ns x) (deeper kind d)) where
       abbrev exit : Port
       exit = across kind (placeOf (x .0)) (x .1) .0
 
@@ -163,10 +132,10 @@ module _ (ns : List Node) (label : ℕ → Label) (rs : Rooms) (g : Network ns l
           ∙ ap (λ p. to (stands ns rs p (link ns p) u)) (port-again (x .0))
 
     -- a number answers
-    turns : isNumber kind ≡ true → (d : List DataCell) → Room x d → value ≤ 4294967295 → next (asking x (dat.Question ∷ d)) ≡ to (answering x (dat.Number value ∷ d))
+    turns : isKind Number kind ≡ true → (d : List DataCell) → Room x d → value ≤ 4294967295 → next (asking x (dat.Question ∷ d)) ≡ to (answering x (dat.Number value ∷ d))
     turns e d r b =
         let a = at ns label g x q in
-        let is = number-kind kind e in
+        let is = is-kind Number kind e in
         let i : a .kind ≡ Number = same-kind (sym (a .is) ∙ is) in
         let p : placeOf (x .0) ≡ First = first-port (placeOf (x .0)) (subst (λ κ. offset (placeOf (x .0)) < arity κ) i (a .owned)) in
         let s = stacked (x .1) (dat.Question ∷ d) in
@@ -195,13 +164,13 @@ module _ (ns : List Node) (label : ℕ → Label) (rs : Rooms) (g : Network ns l
       pub low : number + length d ≤ 1000000000 + successorNodes ns
       pub way : go next (suc (double k)) (asking (orbit ns i) (dat.Question ∷ d)) ≡ to (answering (orbit ns i) (dat.Number number ∷ d))
 
-    back : isNumber (kindAt ns (orbit ns m .0)) ≡ true → (k i : ℕ) → i + k ≡ m → (d : List DataCell) → length d ≡ count (passesSuccessor ns label g) i → Back k i d
+    back : isKind Number (kindAt ns (orbit ns m .0)) ≡ true → (k i : ℕ) → i + k ≡ m → (d : List DataCell) → length d ≡ count (passesSuccessor ns label g) i → Back k i d
     back met zero i h d e =
         let same : m ≡ i = omega arith in
         let x = orbit ns i in
-        let n = subst (λ j. isNumber (kindAt ns (orbit ns j .0)) ≡ true) same met in
+        let n = subst (λ j. isKind Number (kindAt ns (orbit ns j .0)) ≡ true) same met in
         let v = nodeAt ns (x .0 / 3) .value in
-        let b : v ≤ 1000000000 = g .small (x .0 / 3) (number-kind (kindAt ns (x .0)) n) in
+        let b : v ≤ 1000000000 = g .small (x .0 / 3) (is-kind Number (kindAt ns (x .0)) n) in
         let c = few-successors ns label g m going i (omega arith) in
         record
         { number = v
@@ -213,14 +182,14 @@ module _ (ns : List Node) (label : ℕ → Label) (rs : Rooms) (g : Network ns l
         let q = orbit-asks ns label g m going i (omega arith) in
         let f = going i (omega arith) in
         let o = kindAt ns (x .0) in
-        let deep : length (deeper o d) ≡ count (passesSuccessor ns label g) (suc i) = deeper-length o d ∙ ap (bump (isSuccessor o)) e in
+        let deep : length (deeper o d) ≡ count (passesSuccessor ns label g) (suc i) = deeper-length (isKind Successor o) d ∙ ap (bump (isKind Successor o)) e in
         let b = back met k (suc i) (omega arith) (deeper o d) deep in
         let r = room i (omega arith) d e in
         let t = room (suc i) (omega arith) (deeper o d) deep in
         let a = b .number in
         let low = b .low in
-        let w = raised-balance o a d in
-        let few = few-nodes ns in
+        let w = raised-balance (isKind Successor o) a d in
+        let few = few-successor-nodes ns in
         let size = g .few in
         record
         { number = raised o a
@@ -238,7 +207,7 @@ module _ (ns : List Node) (label : ℕ → Label) (rs : Rooms) (g : Network ns l
       let cell : cond (eqb (rs .datas) 0) [] (dat.Question ∷ []) ≡ dat.Question ∷ [] = ap (λ b. cond b [] (dat.Question ∷ [])) some in
       ap₂ (λ p d. stands ns rs 0 p (stacked [] d)) to-link cell ∙ ap (λ f. stands ns rs f (link ns 0) (stacked [] (dat.Question ∷ []))) (sym (m .back))
 
-  pub comes-home : Suffices ns label rs → Home ns label rs
+  pub comes-home : Suffices ns label rs → Home ns rs (networkWeight label ns)
   comes-home memory =
       let met = number-met ns label g in
       let j = met .at in

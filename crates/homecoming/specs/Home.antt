@@ -3,7 +3,6 @@ use mathlib.Core.Path.{_≡_}
 use mathlib.Core.List.{List}
 use Prim.Native.Nat.{ℕ, _+_, _*_, _%_, _≤_}
 use lib.ListN.{length}
-use Rattle.std.specs.declared.option.Option.{Option}
 use Rattle.std.specs.declared.option.Option.the-variants.{Some}
 use Rattle.cells.specs.declared.kinds.Kind.the-variants.{Number}
 use Rattle.cells.specs.Ports.{Node, nodeAt, absent}
@@ -37,13 +36,14 @@ pub record Distance (ns : List Node) (rs : Rooms) (n d : ℕ) : Type 0 where
   pub reached : go next d (opened ns rs Question) ≡ to home
   pub brings : numberOf home ≡ Some n
 
--- the token comes home with a number, after an odd number of steps and at most twice the weight less one
-pub record Home (ns : List Node) (label : ℕ → Label) (rs : Rooms) : Type 0 where
+-- the token comes home with a number, after an odd number of steps, at most one less than twice w
+pub record Home (ns : List Node) (rs : Rooms) (w : ℕ) : Type 0 where
   pub number : ℕ
   pub steps : ℕ
   pub distance : Distance ns rs number steps
   pub odd : steps % 2 ≡ 1
-  pub soon : steps + 1 ≤ 2 * networkWeight label ns
+  pub soon : steps + 1 ≤ 2 * w
 
+-- from every such network, in memory that suffices, within the bound that its weight sets
 abbrev pub Comes-home : Type 0
-Comes-home = (ns : List Node) (label : ℕ → Label) (rs : Rooms) → Network ns label → Suffices ns label rs → Home ns label rs
+Comes-home = (ns : List Node) (label : ℕ → Label) (rs : Rooms) → Network ns label → Suffices ns label rs → Home ns rs (networkWeight label ns)
