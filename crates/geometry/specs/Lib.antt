@@ -1,1 +1,5 @@
 pub mod Labels
+pub mod Network
+pub mod Derivations
+pub mod Theorems
+pub mod Examples

@@ -1,0 +1,9 @@
+pub mod Programs
+pub mod Names
+pub mod Made
+pub mod Ends
+pub mod Owned
+pub mod Joins
+pub mod Wired
+pub mod Nodes
+pub mod Soundness
