@@ -7,3 +7,4 @@ pub mod Orbit
 pub mod Steps
 pub mod Way
 pub mod Example
+pub mod Programs

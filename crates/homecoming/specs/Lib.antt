@@ -1,2 +1,3 @@
 pub mod Home
 pub mod Example
+pub mod Programs
