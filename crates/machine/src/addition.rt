@@ -1,6 +1,7 @@
 ghost use mathlib.Core.Path.{_≡_};
 ghost use Rattle.machine.specs.Steps.{Took};
 ghost use Rattle.machine.specs.Additions.{Standing, standing, passing, onward, mirrored};
+ghost use Rattle.machine.specs.Lawful.{addition-laws};
 use crate::machines::Machine;
 use crate::reasons::Reason;
 
@@ -26,6 +27,8 @@ pub impl Machine for Addition as AdditionMachine {
     ghost next = { onward };
 
     ghost turned = { mirrored };
+
+    ghost lawful = { addition-laws };
 
     fn step(&mut self) -> Result<(), Reason> {
         match self.direction {

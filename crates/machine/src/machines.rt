@@ -13,7 +13,8 @@ pub trait Machine {
 
     ghost turned: { State → State };
 
-    law lawful: { Laws next turned };
+    // The proof of the two laws, which each machine hands over.
+    ghost lawful: { Laws next turned };
 
     // Takes the next state, or stays as it stands and returns the reason.
     fn step(&mut self) -> Result<(), Reason>

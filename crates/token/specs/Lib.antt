@@ -1,3 +1,4 @@
 pub mod Table
 pub mod State
 pub mod Next
+pub mod Rows

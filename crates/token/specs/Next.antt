@@ -12,9 +12,10 @@ use Rattle.cells.specs.Ports.{Node, kindNumber, offset, nodeAt, placeOf, portAt
 use Rattle.machine.specs.declared.reasons.Reason.{Reason}
 use Rattle.machine.specs.declared.reasons.Reason.the-variants.{Home, NoRow, Unlinked, Full, Overflow}
 use Rattle.machine.specs.Steps.{Next, to, ends, then}
+use Rattle.stack.specs.Shelving.{shelf, shelf-room}
 use Rattle.token.specs.declared.memory.IterCell.{IterCell}
 use Rattle.token.specs.declared.memory.DataCell.{DataCell}
-use Rattle.token.specs.Table.{Stacks, Row, table, fits, changed, shelfOf, byData, byIter}
+use Rattle.token.specs.Table.{Stacks, Row, table, fits, changed, byData, byIter}
 use Rattle.token.specs.State.{Rooms, State}
 
 -- the row is one for a node of this kind and value, a port of arrival and these stacks
@@ -45,17 +46,13 @@ orNoRow (Some r) = to r
 abbrev pub rowAt : State → Next Row
 rowAt s = cond (eqb (nodeTo s) 0) (ends NoRow) (orNoRow (rowFor (nodeAt (s .nodes) (nodeTo s) .kind) (placeOf (s .to)) (valueTo s) (s .stacks)))
 
--- shelf j has 64 cells, or none if one of them is missing
-abbrev pub shelfRoom : Rooms → ℕ → ℕ
-shelfRoom rs j = cond (leb j (rs .shelves)) 64 0
-
 -- the stacks that a node of value v can reach hold no more than they have cells for
 abbrev pub within : Rooms → (v : ℕ) → Stacks → Bool
 within rs v s =
     leb (length (s .letters)) (rs .letters)
     && (leb (length (s .iters)) (rs .iters)
     && (leb (length (s .datas)) (rs .datas)
-    && leb (length (shelfOf v s)) (shelfRoom rs v)))
+    && leb (length (shelf v (s .shelves))) (shelf-room (rs .shelves) v)))
 
 abbrev pub largest : ℕ
 largest = 4294967295

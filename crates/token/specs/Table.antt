@@ -3,11 +3,12 @@ use mathlib.Core.Bool.{Bool, true, false, not, _&&_}
 use mathlib.Core.List.{List, [], _∷_}
 use Prim.Native.Nat.{ℕ, _+_, _-_}
 use lib.Dec.{eqb, leb}
-use lib.ListN.{length, getD, set}
+use lib.ListN.{length}
 use Rattle.cells.specs.declared.kinds.Kind.{Kind}
 use Rattle.cells.specs.declared.kinds.Kind.the-variants as kind
 use Rattle.cells.specs.declared.kinds.Port.{Port}
 use Rattle.cells.specs.declared.kinds.Port.the-variants.{First, Second, Third}
+use Rattle.stack.specs.Shelving.{shelf, with-shelf}
 use Rattle.token.specs.declared.memory.Letter.{Letter}
 use Rattle.token.specs.declared.memory.Letter.the-variants.{Left, Right}
 use Rattle.token.specs.declared.memory.IterCell.{IterCell}
@@ -15,7 +16,7 @@ use Rattle.token.specs.declared.memory.IterCell.the-variants as iter
 use Rattle.token.specs.declared.memory.DataCell.{DataCell}
 use Rattle.token.specs.declared.memory.DataCell.the-variants as dat
 
--- the stacks m, i and d of a token and its shelves, each with its top first; shelf j stands at place j - 1
+-- the stacks m, i and d of a token and its shelves, each with its top first
 pub record Stacks : Type 0 where
   pub letters : List Letter
   pub iters : List IterCell
@@ -34,11 +35,7 @@ withDatas ds s = record { letters = s .letters; iters = s .iters; datas = ds; sh
 abbrev pub withShelves : List (List IterCell) → Stacks → Stacks
 withShelves ss s = record { letters = s .letters; iters = s .iters; datas = s .datas; shelves = ss }
 
--- what shelf j holds
-abbrev pub shelfOf : ℕ → Stacks → List IterCell
-shelfOf j s = getD (s .shelves) (j - 1) []
-
--- j is the number of a shelf
+-- j is the number of a shelf: these count from 1, and a token has 64
 abbrev pub isShelf : ℕ → Stacks → Bool
 isShelf j s = leb 1 j && leb j (length (s .shelves))
 
@@ -172,7 +169,7 @@ fits iterNumber v s = byIter false (λ _ _. true) (λ _ _ _. false) (s .iters)
 fits pair v s = byIter false (λ _ _. false) (λ _ _ _. true) (s .iters)
 fits (started σ) v s = byIter false (λ _ _. false) (λ a b _. eqb (countOf σ a b) 0) (s .iters)
 fits (counting σ) v s = byIter false (λ _ _. false) (λ a b _. not (eqb (countOf σ a b) 0)) (s .iters)
-fits shelved v s = isShelf v s && byTop false (λ _ _. true) (shelfOf v s)
+fits shelved v s = isShelf v s && byTop false (λ _ _. true) (shelf v (s .shelves))
 
 -- what the change leaves of the stacks, at a node of value v
 abbrev pub changed : Change → (v : ℕ) → Stacks → Stacks
@@ -192,5 +189,5 @@ changed (start σ) v s = byIter s (λ k cs. withIters (pairOn σ 0 k ∷ cs) s) 
 changed (finish σ) v s = byIter s (λ _ _. s) (λ a b cs. withIters (iter.Number (keptOf σ a b) ∷ cs) s) (s .iters)
 changed (countUp σ) v s = byIter s (λ _ _. s) (λ a b cs. withIters (pairOn σ (countOf σ a b + 1) (keptOf σ a b) ∷ cs) s) (s .iters)
 changed (countDown σ) v s = byIter s (λ _ _. s) (λ a b cs. withIters (pairOn σ (countOf σ a b - 1) (keptOf σ a b) ∷ cs) s) (s .iters)
-changed shelve v s = byTop s (λ c cs. withShelves (set (s .shelves) (v - 1) (c ∷ shelfOf v s)) (withIters cs s)) (s .iters)
-changed unshelve v s = byTop s (λ c cs. withShelves (set (s .shelves) (v - 1) cs) (withIters (c ∷ s .iters) s)) (shelfOf v s)
+changed shelve v s = byTop s (λ c cs. withShelves (with-shelf v (c ∷ shelf v (s .shelves)) (s .shelves)) (withIters cs s)) (s .iters)
+changed unshelve v s = byTop s (λ c cs. withShelves (with-shelf v cs (s .shelves)) (withIters (c ∷ s .iters) s)) (shelf v (s .shelves))

@@ -1,0 +1,76 @@
+-- Whole runs of a walk: any calls, in any order and however often, over any machine and any readings.
+use mathlib.Core.Path.{_≡_}
+use mathlib.Core.List.{List, [], _∷_, _++_}
+use Prim.Native.Nat.{ℕ, _+_}
+use lib.IntN.{ℤ, pos, negℤ, _-ℤ_}
+use Rattle.std.specs.declared.option.Option.{Option}
+use Rattle.std.specs.declared.option.Option.the-variants.{None, Some}
+use Rattle.machine.specs.declared.calls.Call.{Call}
+use Rattle.machine.specs.declared.calls.Call.the-variants as call
+use Rattle.machine.specs.declared.calls.Answer.{Answer}
+use Rattle.machine.specs.declared.calls.Answer.the-variants as answer
+use Rattle.machine.specs.declared.headings.Heading.{Heading}
+use Rattle.machine.specs.declared.headings.Heading.the-variants.{Up, Down}
+use Rattle.machine.specs.Steps.{Next, to, go}
+use Rattle.machine.specs.Walks.{Place, opening, Grant, Asked, Brought, towards}
+
+-- y stands d next states after x, or before it where d is negative
+pub record Stands {S : Type 0} (next : S → Next S) (x : S) (d : ℤ) (y : S) : Type 0 where
+  pub ahead : (n : ℕ) → d ≡ pos n → go next n x ≡ to y
+  pub behind : (n : ℕ) → d ≡ negℤ (pos n) → go next n y ≡ to x
+
+-- of g steps granted, those forward and those back
+abbrev pub forth : Heading → ℕ → ℕ
+forth Up g = g
+forth Down g = 0
+
+abbrev pub back : Heading → ℕ → ℕ
+back Up g = 0
+back Down g = g
+
+-- the sum of the latest open probe; the latest stands first
+abbrev pub latest : List ℤ → Option ℤ
+latest [] = None
+latest (s ∷ ps) = Some s
+
+-- one call at p with the probes ps open: its answer, the place and the open probes after it,
+-- and the steps that it granted forward and back
+pub data Does {S Q R : Type 0} (next : S → Next S) (turned : S → S) (reads : S → ℤ → Q → R → Type 0) : Place S → List ℤ → Call Q → Answer R → Place S → List ℤ → ℕ → ℕ → Type 0 where
+  goes-forward : {p q : Place S} {ps : List ℤ} {k : ℕ} {a : Grant} → Asked Up next turned k p q a → Does next turned reads p ps (call.Forward k) (answer.Moved a) q ps (a .0) 0
+  goes-back : {p q : Place S} {ps : List ℤ} {k : ℕ} {a : Grant} → Asked Down next turned k p q a → Does next turned reads p ps (call.Back k) (answer.Moved a) q ps 0 (a .0)
+  tells-sum : {p : Place S} {ps : List ℤ} → Does next turned reads p ps call.Sum (answer.Sum (p .sum)) p ps 0 0
+  takes-probe : {p : Place S} {ps : List ℤ} → Does next turned reads p ps call.Probe answer.Probed p (p .sum ∷ ps) 0 0
+  brings-back : {p q : Place S} {ps : List ℤ} {s : ℤ} {a : Grant} → Brought next turned s p q a → Does next turned reads p (s ∷ ps) call.BringBack (answer.Moved a) q ps (forth (towards (p .sum) s) (a .0)) (back (towards (p .sum) s) (a .0))
+  keeps : {p : Place S} {ps : List ℤ} {s : ℤ} → Does next turned reads p (s ∷ ps) call.Keep answer.Kept p ps 0 0
+  brings-none : {p : Place S} → Does next turned reads p [] call.BringBack answer.NoProbe p [] 0 0
+  keeps-none : {p : Place S} → Does next turned reads p [] call.Keep answer.NoProbe p [] 0 0
+  reads-of : {p : Place S} {ps : List ℤ} {q : Q} {t : R} → reads (p .state) (p .sum) q t → Does next turned reads p ps (call.Read q) (answer.Read t) p ps 0 0
+
+-- from o, these calls with these answers led to p, with the probes ps open;
+-- in all they granted f steps forward and b back
+pub data Run {S Q R : Type 0} (next : S → Next S) (turned : S → S) (reads : S → ℤ → Q → R → Type 0) (o : Place S) : List (Call Q × Answer R) → Place S → List ℤ → ℕ → ℕ → Type 0 where
+  begun : Run next turned reads o [] o [] 0 0
+  called : {h : List (Call Q × Answer R)} {p q : Place S} {ps qs : List ℤ} {f b f′ b′ : ℕ} {c : Call Q} {a : Answer R} → Run next turned reads o h p ps f b → Does next turned reads p ps c a q qs f′ b′ → Run next turned reads o (h ++ ((c, a) ∷ [])) q qs (f + f′) (b + b′)
+  -- where a list of calls ends, what is open is kept
+  ended : {h : List (Call Q × Answer R)} {p : Place S} {ps : List ℤ} {f b : ℕ} → Run next turned reads o h p ps f b → Run next turned reads o h p [] f b
+
+-- the same, whatever the counts
+pub record Ran {S Q R : Type 0} (next : S → Next S) (turned : S → S) (reads : S → ℤ → Q → R → Type 0) (o : Place S) (h : List (Call Q × Answer R)) (p : Place S) (ps : List ℤ) : Type 0 where
+  pub forward : ℕ
+  pub back : ℕ
+  pub run : Run next turned reads o h p ps forward back
+
+-- the run law of one machine, since the opening at x
+pub record RunLaw {S Q R : Type 0} (next : S → Next S) (turned : S → S) (reads : S → ℤ → Q → R → Type 0) : Type 0 where
+  -- the sum is the steps granted forward less those granted back
+  pub counts : (x : S) {h : List (Call Q × Answer R)} {p : Place S} {ps : List ℤ} {f b : ℕ} → Run next turned reads (opening x) h p ps f b → p .sum ≡ pos f -ℤ pos b
+  -- the machine stands that many next states after the opening, or before it
+  pub stands : (x : S) {h : List (Call Q × Answer R)} {p : Place S} {ps : List ℤ} {f b : ℕ} → Run next turned reads (opening x) h p ps f b → Stands next x (p .sum) (p .state)
+  -- two walks alike in opening and sum are alike in state
+  pub one-state : (x : S) {h i : List (Call Q × Answer R)} {p q : Place S} {ps qs : List ℤ} {f b g c : ℕ} → Run next turned reads (opening x) h p ps f b → Run next turned reads (opening x) i q qs g c → p .sum ≡ q .sum → p .state ≡ q .state
+  -- and the same call, with the same k, query or latest probe's sum, answers alike and leads to one place
+  pub one-answer : (x : S) {h i : List (Call Q × Answer R)} {p q p′ q′ : Place S} {ps qs ps′ qs′ : List ℤ} {f b g c f′ b′ g′ c′ : ℕ} {k : Call Q} {a d : Answer R} → Run next turned reads (opening x) h p ps f b → Run next turned reads (opening x) i q qs g c → p .sum ≡ q .sum → latest ps ≡ latest qs → Does next turned reads p ps k a p′ ps′ f′ b′ → Does next turned reads q qs k d q′ qs′ g′ c′ → (a ≡ d) × (p′ ≡ q′)
+  -- bring-back reaches every place where the walk once stood
+  pub returns : (x : S) {h i : List (Call Q × Answer R)} {p q : Place S} {ps qs : List ℤ} {f b g c : ℕ} (z : Place S) (a : Grant) → Run next turned reads (opening x) h p ps f b → Run next turned reads (opening x) i q qs g c → Brought next turned (p .sum) q z a → (a .1 ≡ None) × (z ≡ p)
+  -- so a probe taken in the run is always reached again
+  pub arrives : (x : S) {h : List (Call Q × Answer R)} {p q : Place S} {s : ℤ} {ps qs : List ℤ} {f b f′ b′ : ℕ} {a : Answer R} → Run next turned reads (opening x) h p (s ∷ ps) f b → Does next turned reads p (s ∷ ps) call.BringBack a q qs f′ b′ → (q .sum ≡ s) × ((n : ℕ) × (a ≡ answer.Moved (n, None)))

@@ -1,0 +1,5 @@
+pub mod Stacked
+pub mod Holds
+pub mod Tables
+pub mod Slots
+pub mod Shelved

@@ -1,0 +1,4 @@
+pub mod Edits
+pub mod Cells
+pub mod Stacks
+pub mod Shelving

@@ -1,0 +1,5 @@
+pub mod Tests
+pub mod Ports
+pub mod Rows
+pub mod Steps
+pub mod Laws
