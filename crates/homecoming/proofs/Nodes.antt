@@ -19,8 +19,8 @@ use Rattle.token.specs.declared.memory.Letter.{Letter}
 use Rattle.token.specs.declared.memory.Letter.the-variants.{Left, Right}
 use Rattle.token.specs.declared.memory.DataCell.{DataCell}
 use Rattle.token.specs.declared.memory.DataCell.the-variants as dat
-use Rattle.token.specs.Table.{Stacks, Row, changed}
-use Rattle.token.specs.Next.{rowFor}
+use Rattle.token.specs.Table.{Stacks, Row, table, changed}
+use Rattle.token.specs.Next.{firstRow}
 use Rattle.geometry.specs.Labels.{Sign, plus, opposite, Label, on, flip, Fits, at-root, at-number, at-successor, at-function, at-pair, at-iterator, at-left-counter, at-right-counter, at-transfer, Plain}
 use Rattle.homecoming.proofs.Leaves.{Leads, Asks, twice-opposite, no-question}
 
@@ -94,7 +94,7 @@ stacked s d = record { letters = s; iters = []; datas = d; shelves = replicate 6
 -- the token's table has a row for what comes to the port, by which it leaves so
 pub record Acts (κ : Kind) (p : Port) (v : ℕ) (s : Stacks) (o : Port) (t : Stacks) : Type 0 where
   pub row : Row
-  pub found : rowFor (Some κ) p v s ≡ Some row
+  pub found : firstRow κ p v s table ≡ Some row
   pub exit : row .exit ≡ o
   pub change : changed (row .change) v s ≡ t
 
@@ -116,32 +116,26 @@ pub record Leaves (κ : Kind) (a b c : Label) (p : Port) (s : List Letter) (o : 
   pub asks : Asks (flip (among a b c (o .0))) (o .1)
   pub crosses : Crosses κ p s o
 
-acts : {κ : Kind} {p : Port} {v : ℕ} {s : Stacks} (r : Row) → rowFor (Some κ) p v s ≡ Some r → Acts κ p v s (r .exit) (changed (r .change) v s)
+acts : {κ : Kind} {p : Port} {v : ℕ} {s : Stacks} (r : Row) → firstRow κ p v s table ≡ Some r → Acts κ p v s (r .exit) (changed (r .change) v s)
 acts r e = record { row = r; found = e; exit = refl; change = refl }
 
 at-succ : (s : List Letter) → Crosses Successor Second s (First, s)
-unfolding rowFor
 at-succ s = record { out = λ v d. acts _ refl; back = λ v d a. acts _ refl }
 
 at-second : (s : List Letter) → Crosses Multiplexer Second s (First, Left ∷ s)
-unfolding rowFor
 at-second s = record { out = λ v d. acts _ refl; back = λ v d a. acts _ refl }
 
 at-third : (s : List Letter) → Crosses Multiplexer Third s (First, Right ∷ s)
-unfolding rowFor
 at-third s = record { out = λ v d. acts _ refl; back = λ v d a. acts _ refl }
 
 at-left : (s : List Letter) → Crosses Multiplexer First (Left ∷ s) (Second, s)
-unfolding rowFor
 at-left s = record { out = λ v d. acts _ refl; back = λ v d a. acts _ refl }
 
 at-right : (s : List Letter) → Crosses Multiplexer First (Right ∷ s) (Third, s)
-unfolding rowFor
 at-right s = record { out = λ v d. acts _ refl; back = λ v d a. acts _ refl }
 
 -- a number answers the question with its value, and sends it back
 pub answers : (v : ℕ) (s : List Letter) (d : List DataCell) → Acts Number First v (stacked s (dat.Question ∷ d)) First (stacked s (dat.Number v ∷ d))
-unfolding rowFor
 answers v s d = acts _ refl
 
 module _ (x : Sign) (A : Ty) (s : List Letter) where

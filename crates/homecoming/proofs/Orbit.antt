@@ -20,7 +20,8 @@ use Rattle.homecoming.specs.Home.{Network}
 use Rattle.homecoming.proofs.Leaves.{Asks}
 use Rattle.homecoming.proofs.Nodes.{isKind, is-kind, same-kind, across, across-twice, among, Crosses, Leaves, passes, not-root, at-successor-node}
 use Rattle.homecoming.proofs.Pigeonhole.{In, count, count-all, few-in, Least, least}
-use Rattle.homecoming.proofs.Numbering.{offset-of, port-again, node-of, part-of, place-of, inside-low, inside-is}
+use Rattle.token.proofs.Ports.{node-of, place-of, offset-of, port-of}
+use Rattle.homecoming.proofs.Numbering.{part-of, inside-low, inside-is}
 use Rattle.homecoming.proofs.Questions.{Position, Question, questions, questions-length, question-in, successorList, successorList-length, successor-in}
 
 abbrev pub kindAt : List Node → ℕ → Option Kind
@@ -55,7 +56,7 @@ over-twice ns x =
     let o = across (nodeAt ns k .kind) (placeOf (x .0)) (x .1) in
     over-node ns k (o .0) (o .1)
     ∙ ap (λ o. (portAt k (o .0), o .1)) (across-twice (nodeAt ns k .kind) (placeOf (x .0)) (x .1))
-    ∙ ap (λ p. (p, x .1)) (port-again (x .0))
+    ∙ ap (λ p. (p, x .1)) (port-of (x .0))
 
 among-label : (label : ℕ → Label) (k : ℕ) (q : Port) → among (label (3 * k)) (label (3 * k + 1)) (label (3 * k + 2)) q ≡ label (portAt k q)
 among-label label k First = let e : 3 * k ≡ 3 * k + 0 = omega arith in ap label e
@@ -91,7 +92,7 @@ module _ (ns : List Node) (label : ℕ → Label) (g : Network ns label) where
       ; is = k .1
       ; fits = g .labelled .fits (p / 3) (k .0) (k .1)
       ; owned = subst (λ i. i < arity (k .0)) (sym (offset-of p)) o
-      ; asks = subst (λ a. Asks a (x .1)) (sym (among-label label (p / 3) (placeOf p) ∙ ap label (port-again p))) (q .1)
+      ; asks = subst (λ a. Asks a (x .1)) (sym (among-label label (p / 3) (placeOf p) ∙ ap label (port-of p))) (q .1)
       }
 
   has-port : (k : ℕ) (κ : Kind) → k < length ns → nodeAt ns k .kind ≡ Some κ → (q : Port) → offset q < arity κ → Has ns (portAt k q)
@@ -212,7 +213,7 @@ module _ (ns : List Node) (label : ℕ → Label) (g : Network ns label) where
       let f : a .kind ≡ Successor = same-kind (sym (a .is) ∙ is) in
       let o = at-successor-node _ _ _ (subst (λ κ. Fits κ (label (3 * k)) (label (3 * k + 1)) (label (3 * k + 2))) f (a .fits)) (placeOf (x .0))
             (subst (λ κ. offset (placeOf (x .0)) < arity κ) f (a .owned)) (x .1) (a .asks) in
-      (is, ap (λ o. (portAt k (o .0), o .1)) o ∙ ap (λ p. (p, x .1)) (port-again (x .0)))
+      (is, ap (λ o. (portAt k (o .0), o .1)) o ∙ ap (λ p. (p, x .1)) (port-of (x .0)))
 
   -- each successor node is passed at most once
   pub few-successors : (m : ℕ) → Going m → (i : ℕ) → i ≤ suc m → count passesSuccessor i ≤ successorNodes ns

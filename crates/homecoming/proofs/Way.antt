@@ -15,6 +15,8 @@ use Rattle.cells.specs.declared.kinds.Port.the-variants.{First, Second, Third}
 use Rattle.cells.specs.Ports.{Node, nodeAt, arity, offset, portAt, placeOf, link, linked}
 use Rattle.geometry.specs.Labels.{Label, networkWeight, successorNodes}
 use Rattle.machine.specs.Steps.{Next, to, then, go}
+use Rattle.machine.specs.Lawful.{go-none, go-first}
+use Rattle.machine.proofs.Ways.{go-more}
 use Rattle.token.specs.declared.memory.DataCell.{DataCell}
 use Rattle.token.specs.declared.memory.DataCell.the-variants as dat
 use Rattle.token.specs.State.{Rooms, State, opened, entrance}
@@ -23,24 +25,17 @@ use Rattle.homecoming.specs.Home.{Network, Suffices, Home}
 use Rattle.homecoming.proofs.Leaves.{asks-height}
 use Rattle.homecoming.proofs.Nodes.{isKind, is-kind, same-kind, across, Acts, Crosses, stacked, deeper, raised, answers}
 use Rattle.homecoming.proofs.Pigeonhole.{bump, count}
-use Rattle.homecoming.proofs.Numbering.{port-again, node-of, place-of}
+use Rattle.token.proofs.Ports.{node-of, place-of, port-of}
 use Rattle.homecoming.proofs.Questions.{Position, Question, few-successor-nodes}
 use Rattle.homecoming.proofs.Orbit.{kindAt, over, onward, orbit, at, Out, out, not-home, Going, orbit-asks, number-met, passesSuccessor, few-successors, root-has}
 use Rattle.homecoming.proofs.Steps.{stands, linked-out, linked-in, held-question, held-number, step}
 
--- a step first, or a step last
-pub go-first : {S : Type 0} (f : S → Next S) (x y : S) → f x ≡ to y → (n : ℕ) → go f (suc n) x ≡ go f n y
-unfolding go
-go-first f x y e zero = e
-go-first f x y e (suc n) = ap (λ o. then o f) (go-first f x y e n)
+-- a step first, and a step last
+first-step : {S : Type 0} (f : S → Next S) (n : ℕ) (x y : S) → f x ≡ to y → go f (suc n) x ≡ go f n y
+first-step f n x y e = go-first f n x ∙ ap (λ o. then o (go f n)) e
 
-pub go-last : {S : Type 0} (f : S → Next S) (n : ℕ) (x y z : S) → go f n x ≡ to y → f y ≡ to z → go f (suc n) x ≡ to z
-unfolding go
-go-last f n x y z h e = ap (λ o. then o f) h ∙ e
-
-go-one : {S : Type 0} (f : S → Next S) (x y : S) → f x ≡ to y → go f 1 x ≡ to y
-unfolding go
-go-one f x y e = e
+last-step : {S : Type 0} (f : S → Next S) (n : ℕ) (x y z : S) → go f n x ≡ to y → f y ≡ to z → go f (suc n) x ≡ to z
+last-step f n x y z h e = let is : suc n ≡ n + 1 = omega arith in ap (λ n. go f n x) is ∙ go-more f n x y z h e
 
 abbrev double : ℕ → ℕ
 double zero = zero
@@ -92,7 +87,7 @@ module _ (ns : List Node) (label : ℕ → Label) (rs : Rooms) (g : Network ns l
 
     -- the token leaves by the port by which the question came
     leaves : linked ns (portAt node (placeOf (x .0))) (link ns (portAt node (placeOf (x .0)))) ≡ true
-    leaves = subst (λ p. linked ns p (link ns p) ≡ true) (sym (port-again (x .0))) (linked-out ns (g .sound) (x .0) (q .0))
+    leaves = subst (λ p. linked ns p (link ns p) ≡ true) (sym (port-of (x .0))) (linked-out ns (g .sound) (x .0) (q .0))
 
     module _ (e : isKind Number kind ≡ false) (d : List DataCell) (r : Room x d) (t : Room (onward ns x) (deeper kind d)) where
       abbrev exit : Port
@@ -114,7 +109,7 @@ module _ (ns : List Node) (label : ℕ → Label) (rs : Rooms) (g : Network ns l
           let u = stacked (over ns x .1) (dat.Question ∷ deeper kind d) in
           step ns rs (link ns (x .0)) (x .0) node (placeOf (x .0)) exit (crossing .kind) s u refl refl away (linked-in ns (g .sound) (x .0) (q .0)) (crossing .is)
           (subst (λ k. Acts (crossing .kind) (placeOf (x .0)) value s exit (stacked (over ns x .1) (dat.Question ∷ deeper k d))) (sym (crossing .is)) (crossed .out value d))
-          (held-question rs value (x .1) d (r .letters) (r .datas)) (held-question rs value (over ns x .1) (deeper kind d) (t .letters) (t .datas))
+          (held-question rs (x .1) d (r .letters) (r .datas)) (held-question rs (over ns x .1) (deeper kind d) (t .letters) (t .datas))
           (linked-out ns (g .sound) (over ns x .0) (crossing .has))
           ∙ ap (λ f. to (stands ns rs f (onward ns x .0) u)) (sym back-there)
 
@@ -127,9 +122,9 @@ module _ (ns : List Node) (label : ℕ → Label) (rs : Rooms) (g : Network ns l
           ∙ step ns rs (onward ns x .0) (over ns x .0) node exit (placeOf (x .0)) (crossing .kind) s u (node-of node exit) (place-of node exit) away
             (linked-in ns (g .sound) (over ns x .0) (crossing .has)) (crossing .is)
             (subst (λ k. Acts (crossing .kind) exit value (stacked (over ns x .1) (dat.Number a ∷ deeper k d)) (placeOf (x .0)) (stacked (x .1) (dat.Number (raised k a) ∷ d))) (sym (crossing .is)) (crossed .back value d a))
-            (held-number rs value (over ns x .1) a (deeper kind d) (t .letters) (t .datas) b) (held-number rs value (x .1) (raised kind a) d (r .letters) (r .datas) c)
+            (held-number rs (over ns x .1) a (deeper kind d) (t .letters) (t .datas) b) (held-number rs (x .1) (raised kind a) d (r .letters) (r .datas) c)
             leaves
-          ∙ ap (λ p. to (stands ns rs p (link ns p) u)) (port-again (x .0))
+          ∙ ap (λ p. to (stands ns rs p (link ns p) u)) (port-of (x .0))
 
     -- a number answers
     turns : isKind Number kind ≡ true → (d : List DataCell) → Room x d → value ≤ 4294967295 → next (asking x (dat.Question ∷ d)) ≡ to (answering x (dat.Number value ∷ d))
@@ -142,9 +137,9 @@ module _ (ns : List Node) (label : ℕ → Label) (rs : Rooms) (g : Network ns l
         let u = stacked (x .1) (dat.Number value ∷ d) in
         step ns rs (link ns (x .0)) (x .0) node (placeOf (x .0)) (placeOf (x .0)) Number s u refl refl away (linked-in ns (g .sound) (x .0) (q .0)) is
         (subst (λ p. Acts Number p value s p u) (sym p) (answers value (x .1) d))
-        (held-question rs value (x .1) d (r .letters) (r .datas)) (held-number rs value (x .1) value d (r .letters) (r .datas) b)
+        (held-question rs (x .1) d (r .letters) (r .datas)) (held-number rs (x .1) value d (r .letters) (r .datas) b)
         leaves
-        ∙ ap (λ p. to (stands ns rs p (link ns p) u)) (port-again (x .0))
+        ∙ ap (λ p. to (stands ns rs p (link ns p) u)) (port-of (x .0))
 
   module _ (memory : Suffices ns label rs) (m : ℕ) (going : Going ns label g m) where
     -- the memory suffices at each position up to the m-th
@@ -175,7 +170,7 @@ module _ (ns : List Node) (label : ℕ → Label) (rs : Rooms) (g : Network ns l
         record
         { number = v
         ; low = omega arith
-        ; way = go-one next _ _ (turns x (orbit-asks ns label g m going i (omega arith)) n d (room i (omega arith) d e) (omega arith))
+        ; way = last-step next 0 _ _ _ (go-none next _) (turns x (orbit-asks ns label g m going i (omega arith)) n d (room i (omega arith) d e) (omega arith))
         }
     back met (suc k) i h d e =
         let x = orbit ns i in
@@ -194,8 +189,8 @@ module _ (ns : List Node) (label : ℕ → Label) (rs : Rooms) (g : Network ns l
         record
         { number = raised o a
         ; low = omega arith
-        ; way = go-first next _ _ (passes-out x q f d r t) (suc (suc (double k)))
-            ∙ go-last next (suc (double k)) _ _ _ (b .way) (passes-back x q f d r t a (omega arith) (omega arith))
+        ; way = first-step next (suc (suc (double k))) _ _ (passes-out x q f d r t)
+            ∙ last-step next (suc (double k)) _ _ _ (b .way) (passes-back x q f d r t a (omega arith) (omega arith))
         }
 
   -- the opening is the token with the question at the first position
