@@ -7,3 +7,8 @@ pub mod Joins
 pub mod Wired
 pub mod Nodes
 pub mod Soundness
+pub mod Typed
+pub mod Heights
+pub mod Labelling
+pub mod Weights
+pub mod Values

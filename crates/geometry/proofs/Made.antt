@@ -8,6 +8,7 @@ use Rattle.cells.specs.declared.kinds.Kind.{Kind}
 use Rattle.cells.specs.declared.kinds.Kind.the-variants.{Root, Number, Successor, Multiplexer, Iterator, LeftCounter, RightCounter, Transfer}
 use Rattle.calculus.specs.Terms.{Term, var, num, succ, lam, app, pair, split, iter, free, iterators, nodes, successors}
 use Rattle.geometry.specs.Network.{Made, transfers, made}
+use Rattle.geometry.specs.Derivations.{EachNumber}
 
 pub transfers-length : (i : ℕ) (xs : List ℕ) → length (transfers i xs) ≡ length xs
 transfers-length i [] = refl
@@ -44,17 +45,6 @@ Each-transfers : (P : Kind → ℕ → Type 0) (i : ℕ) (xs : List ℕ) → P T
 Each-transfers P i [] h = tt
 Each-transfers P i (x ∷ xs) h = (h, Each-transfers P i xs h)
 
--- P holds of each number of the term
-abbrev pub EachNumber : (ℕ → Type 0) → Term → Type 0
-EachNumber P (var x) = Unit {0}
-EachNumber P (num n) = P n
-EachNumber P (succ t) = EachNumber P t
-EachNumber P (lam x T t) = EachNumber P t
-EachNumber P (app t u) = EachNumber P t × EachNumber P u
-EachNumber P (pair t u) = EachNumber P t × EachNumber P u
-EachNumber P (split x y t u) = EachNumber P t × EachNumber P u
-EachNumber P (iter t u v) = EachNumber P t × EachNumber P u × EachNumber P v
-
 -- what P must hold of, in a term whose iterators are numbered from i on
 pub record Suits (P : Kind → ℕ → Type 0) (i n : ℕ) : Type 0 where
   pub successor : P Successor 0
@@ -88,3 +78,13 @@ made-each P (iter t u v) i s h =
     let b = made-each P u (suc i + iterators t) (narrow P i _ _ _ (omega arith) (omega arith) s) (h .1) in
     let c = made-each P v (suc i + iterators t + iterators u) (narrow P i _ _ _ (omega arith) (omega arith) s) (h .2) in
     (own .0, (own .1, (own .2, (s .multiplexer, Each-append P (made t (suc i)) _ a (Each-append P _ _ (Each-append P _ _ b (Each-transfers P i (free u) crossing)) (Each-append P _ _ c (Each-transfers P i (free v) crossing)))))))
+
+pub every-number : (P : ℕ → Type 0) (t : Term) → ((n : ℕ) → P n) → EachNumber P t
+every-number P (var x) h = tt
+every-number P (num n) h = h n
+every-number P (succ t) h = every-number P t h
+every-number P (lam x T t) h = every-number P t h
+every-number P (app t u) h = (every-number P t h, every-number P u h)
+every-number P (pair t u) h = (every-number P t h, every-number P u h)
+every-number P (split x y t u) h = (every-number P t h, every-number P u h)
+every-number P (iter t u v) h = (every-number P t h, every-number P u h, every-number P v h)

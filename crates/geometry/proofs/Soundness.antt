@@ -10,10 +10,10 @@ use Rattle.cells.specs.declared.kinds.Kind.the-variants.{Root, Number, Successo
 use Rattle.cells.specs.Ports.{Node, nodeAt, link, absent}
 use Rattle.cells.specs.Sound.{Has, Valued, Mutual, Sound}
 use Rattle.calculus.specs.Types.{Ty, N}
-use Rattle.calculus.specs.Terms.{Term, var, num, succ, lam, app, pair, split, iter, iterators, nodes}
+use Rattle.calculus.specs.Terms.{Term, iterators, nodes}
 use Rattle.calculus.specs.Typing.{Typed}
 use Rattle.geometry.specs.Network.{Made, made, bare, allMade, allWires, nowhere, wired, network}
-use Rattle.geometry.proofs.Made.{Each, EachNumber, made-each, made-length}
+use Rattle.geometry.proofs.Made.{Each, made-each, made-length, every-number}
 use Rattle.geometry.proofs.Ends.{ends, ports, counted}
 use Rattle.geometry.proofs.Owned.{Owns, once, never, at-most, owns, owns-bound}
 use Rattle.geometry.proofs.Joins.{Joined, turned, ended, ended-twice, joined}
@@ -66,16 +66,6 @@ Proper κ v = (κ ≡ Root → ⊥) × Valued κ v
 differs : (κ : Kind) (z : κ ≡ Root → _≡_ {A = ℕ} 0 1) → κ ≡ Root → ⊥
 differs κ z e = let a = z e in omega arith
 
-any-number : (t : Term) → EachNumber (Proper Number) t
-any-number (var x) = tt
-any-number (num n) = (differs Number (λ e. cc), tt)
-any-number (succ t) = any-number t
-any-number (lam x T t) = any-number t
-any-number (app t u) = (any-number t, any-number u)
-any-number (pair t u) = (any-number t, any-number u)
-any-number (split x y t u) = (any-number t, any-number u)
-any-number (iter t u v) = (any-number t, any-number u, any-number v)
-
 proper : (t : Term) → iterators t ≤ 64 → Each Proper (made t 1)
 proper t h =
     made-each Proper t 1 (record {
@@ -83,7 +73,7 @@ proper t h =
       multiplexer = (differs Multiplexer (λ e. cc), refl);
       iterator = λ g. ((differs Iterator (λ e. cc), refl), (differs LeftCounter (λ e. cc), refl), (differs RightCounter (λ e. cc), refl));
       transfer = λ j a b. (differs Transfer (λ e. cc), (omega arith, omega arith));
-    }) (any-number t)
+    }) (every-number (Proper Number) t (λ n. (differs Number (λ e. cc), tt)))
 
 one-root : (ns : List Node) (ms : List Made) → Bears ns ms → Each Proper ms → (k : ℕ) → nodeAt ns k .kind ≡ Some Root → ⊥
 one-root ns ms b e k h = each-kind Proper ns ms b e k Root h .0 refl

@@ -39,16 +39,20 @@ Everywhere P (ty-pair {Γ = Γ} {Δ = Δ} d e) = P (Γ ++ Δ) × Everywhere P d 
 Everywhere P (ty-split {Γ = Γ} {Δ₂ = Δ} d e p q) = P (Γ ++ Δ) × Everywhere P d × Everywhere P e
 Everywhere P (ty-iter {Γ = Γ} {Δ = Δ} {Θ = Θ} d e f) = P (Γ ++ (Δ ++ Θ)) × Everywhere P d × Everywhere P e × Everywhere P f
 
+-- P holds of each number of a term
+abbrev pub EachNumber : (ℕ → Type 0) → Term → Type 0
+EachNumber P (var x) = Unit {0}
+EachNumber P (num n) = P n
+EachNumber P (succ t) = EachNumber P t
+EachNumber P (lam x T t) = EachNumber P t
+EachNumber P (app t u) = EachNumber P t × EachNumber P u
+EachNumber P (pair t u) = EachNumber P t × EachNumber P u
+EachNumber P (split x y t u) = EachNumber P t × EachNumber P u
+EachNumber P (iter t u v) = EachNumber P t × EachNumber P u × EachNumber P v
+
 -- the numbers of a term are at most b
 abbrev pub NumbersWithin : ℕ → Term → Type 0
-NumbersWithin b (var x) = Unit {0}
-NumbersWithin b (num n) = n ≤ b
-NumbersWithin b (succ t) = NumbersWithin b t
-NumbersWithin b (lam x T t) = NumbersWithin b t
-NumbersWithin b (app t u) = NumbersWithin b t × NumbersWithin b u
-NumbersWithin b (pair t u) = NumbersWithin b t × NumbersWithin b u
-NumbersWithin b (split x y t u) = NumbersWithin b t × NumbersWithin b u
-NumbersWithin b (iter t u v) = NumbersWithin b t × NumbersWithin b u × NumbersWithin b v
+NumbersWithin b t = EachNumber (λ n. n ≤ b) t
 
 -- the labels of a node's l1, l2 and l3
 abbrev pub Three : Type 0

@@ -1,5 +1,8 @@
 // The network of a term, and the theorems about it: it is sound, and its ports are typed.
-ghost use Rattle.geometry.specs.Theorems.{NamesAreFree, SameNames, NoneTwice, NetworksAreSound};
+// Nothing here runs: each function stands for the theorem that its contract states.
+ghost use Rattle.geometry.specs.Theorems.{NamesAreFree, SameNames, NoneTwice};
+ghost use Rattle.geometry.specs.Theorems.{NodesCounted, SuccessorsCounted, NumbersKept, ReadBack};
+ghost use Rattle.geometry.specs.Theorems.{NetworksAreSound, PortsAreTyped, WeightIsKept, PlainKinds};
 ghost use Rattle.geometry.specs.Examples.{WrittenOut, PremisesMet};
 
 /// The context of a derivation lists the term's free variables in order of occurrence; in a closed derivation no context has one twice.
@@ -10,9 +13,36 @@ pub fn names_are_free()
 {
 }
 
+/// A network has the root and as many nodes as its term counts, an S node for each S sign, and the term's numbers at its n nodes.
+pub fn nodes_are_counted()
+    ensures nodes { λ _. ⌜ NodesCounted ⌝ }
+    ensures successors { λ _. ⌜ SuccessorsCounted ⌝ }
+    ensures numbers { λ _. ⌜ NumbersKept ⌝ }
+{
+}
+
+/// A network written into cells is seen in them again.
+pub fn cells_read_back()
+    ensures { λ _. ⌜ ReadBack ⌝ }
+{
+}
+
 /// The network of every closed program of type N is sound.
 pub fn network_is_sound()
     ensures { λ _. ⌜ NetworksAreSound ⌝ }
+{
+}
+
+/// Each port of it has a sign and a type, from the derivation: the ends of a wire are opposite, and a node's ports fit its kind.
+pub fn ports_are_typed()
+    ensures { λ _. ⌜ PortsAreTyped ⌝ }
+{
+}
+
+/// Without iterator, the Ns at the plus ports are the program's weight, and no node is one of an iterator's.
+pub fn weight_is_kept()
+    ensures weight { λ _. ⌜ WeightIsKept ⌝ }
+    ensures plain { λ _. ⌜ PlainKinds ⌝ }
 {
 }
 

@@ -2,4 +2,4 @@ use Rattle.geometry.proofs.Soundness.{sound}
 use Rattle.geometry.proofs.network_is_sound.Needs as need
 
 pub returns : need.returns
-returns c = λ t d s i. sound t d s i
+returns c = sound
