@@ -6,5 +6,5 @@ pub mod Questions
 pub mod Orbit
 pub mod Steps
 pub mod Way
-pub mod Example
 pub mod Programs
+pub mod Example

@@ -1,36 +1,36 @@
--- S 3: what is supposed can be met, with no cell more than that, and both bounds are reached. Assumes nothing.
+-- (\x:N.S x 3): what is supposed can be met, in exactly the memory that is asked for, and the bound is reached. Assumes nothing.
 use mathlib.Core.Path.{_≡_}
-use mathlib.Core.List.{List, [], _∷_}
+use mathlib.Core.List.{[]}
 use Prim.Native.Nat.{ℕ, _+_, _*_}
-use lib.ListN.{getD}
-use Rattle.std.specs.declared.option.Option.the-variants.{Some}
-use Rattle.cells.specs.declared.kinds.Kind.the-variants.{Root, Number, Successor}
-use Rattle.cells.specs.Ports.{Node, absent}
 use Rattle.calculus.specs.Types.{N}
-use Rattle.geometry.specs.Labels.{Label, on, plus, minus, networkWeight, successorNodes}
-use Rattle.token.specs.State.{Rooms}
+use Rattle.calculus.specs.Terms.{successors}
+use Rattle.calculus.specs.Typing.{Typed, ty-app, ty-lam, ty-succ, ty-var, ty-num, here, none-left, weight, tallest}
+use Rattle.geometry.specs.Derivations.{label}
+use Rattle.geometry.specs.Examples.{applied}
+use Rattle.geometry.specs.Network.{network}
+use Rattle.machine.specs.declared.reasons.Reason.the-variants.{Full}
+use Rattle.machine.specs.Steps.{ends, go}
+use Rattle.token.specs.declared.memory.DataCell.the-variants.{Question}
+use Rattle.token.specs.State.{Rooms, opened}
+use Rattle.token.specs.Next.{next}
 use Rattle.homecoming.specs.Home.{Network, Suffices, Distance}
+use Rattle.homecoming.specs.Programs.{Program, Needs}
 
--- the root, the successor and the number 3
-abbrev pub nodes : List Node
-nodes =
-    record { kind = Some Root; value = 0; one = 4; two = absent; three = absent }
-    ∷ record { kind = Some Successor; value = 0; one = 6; two = 0; three = absent }
-    ∷ record { kind = Some Number; value = 3; one = 3; two = absent; three = absent }
-    ∷ []
+abbrev pub derivation : Typed [] applied N
+derivation = ty-app (ty-lam (ty-succ ty-var) (here none-left)) ty-num
 
--- ports 4 and 6 produce a number, ports 0 and 3 consume one
-abbrev pub label : ℕ → Label
-label p = on (getD (minus ∷ plus ∷ plus ∷ minus ∷ []) p plus) N
-
--- no letter, iterator or shelf cell, and two data cells
-abbrev pub rooms : Rooms
-rooms = record { letters = 0; iters = 0; datas = 2; shelves = 0 }
+-- so many letter cells and data cells, and no others
+abbrev pub rooms : ℕ → ℕ → Rooms
+rooms m d = record { letters = m; iters = 0; datas = d; shelves = 0 }
 
 pub record Met : Type 0 where
-  pub network : Network nodes label
-  pub memory : Suffices nodes label rooms
-  pub distance : Distance nodes rooms 4 3
-  -- 3 steps are twice the weight less one, and 2 cells one more than the successor nodes
-  pub longest : 3 + 1 ≡ 2 * networkWeight label nodes
-  pub tightest : rooms .datas ≡ 1 + successorNodes nodes
+  pub program : Program applied
+  pub needs : Needs derivation (rooms 1 2)
+  pub typed : Network (network applied) (label derivation)
+  pub suffices : Suffices (network applied) (label derivation) (rooms 1 2)
+  -- 4 after 11 steps, one less than twice the weight 6
+  pub distance : Distance (network applied) (rooms 1 2) 4 11
+  pub longest : 11 + 1 ≡ 2 * weight derivation
+  -- with one letter cell less, or one data cell less, the token is stopped
+  pub letters : go next 11 (opened (network applied) (rooms 0 2) Question) ≡ ends Full
+  pub datas : go next 11 (opened (network applied) (rooms 1 1) Question) ≡ ends Full

@@ -1,3 +1,3 @@
 pub mod Home
-pub mod Example
 pub mod Programs
+pub mod Example

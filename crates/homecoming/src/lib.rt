@@ -1,15 +1,23 @@
 // Programs without iterator bring the token home.
 ghost use Rattle.homecoming.specs.Home.{Comes-home};
+ghost use Rattle.homecoming.specs.Programs.{Programs-come-home};
 ghost use Rattle.homecoming.specs.Example.{Met};
 
-/// In memory that suffices, the token comes home from every typed network without iterator with a number,
-/// after an odd number of steps, at most twice the network's weight less one.
+/// From every typed network without iterator, in memory that suffices, the token comes home with a number,
+/// after an odd number of steps, at most one less than twice the network's weight.
 pub fn comes_home()
     ensures { λ _. ⌜ Comes-home ⌝ }
 {
 }
 
-/// What the theorem supposes can be met: S 3 comes home with 4 in 3 steps, its weight being 2, in two data cells.
+/// So does the token of every closed program of type N without iterator, within the bound that the program's weight sets.
+pub fn programs_come_home()
+    ensures { λ _. ⌜ Programs-come-home ⌝ }
+{
+}
+
+/// What both suppose can be met: `(\x:N.S x 3)` comes home with 4 in 11 steps, its weight being 6,
+/// in one letter cell and two data cells, and with one cell less it does not.
 pub fn premises_are_met()
     ensures { λ _. ⌜ Met ⌝ }
 {
