@@ -1,5 +1,5 @@
 -- (\x:N.S x 3) and its way home, by computation.
-use mathlib.Core.Path.{_≡_, refl}
+use mathlib.Core.Path.{refl}
 use native.Mathlib.Omega.{arith}
 use Rattle.cells.specs.Ports.{inside, link, linked}
 use Rattle.geometry.specs.Examples.{applied}

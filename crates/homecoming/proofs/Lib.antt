@@ -5,6 +5,7 @@ pub mod Numbering
 pub mod Questions
 pub mod Orbit
 pub mod Steps
+pub mod Crossing
 pub mod Way
 pub mod Programs
 pub mod Example

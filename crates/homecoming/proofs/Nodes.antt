@@ -5,7 +5,6 @@ use mathlib.Core.List.{List, [], _∷_}
 use Prim.Native.Nat.{ℕ, _+_, _<_}
 use native.Mathlib.Omega.{arith}
 use lib.Dec.{eqb}
-use lib.ListN.{replicate}
 use Rattle.std.proofs.shelf.Ways.{tells}
 use Rattle.std.specs.declared.option.Option.{Option}
 use Rattle.std.specs.declared.option.Option.the-variants.{Some, None}
@@ -19,7 +18,8 @@ use Rattle.token.specs.declared.memory.Letter.{Letter}
 use Rattle.token.specs.declared.memory.Letter.the-variants.{Left, Right}
 use Rattle.token.specs.declared.memory.DataCell.{DataCell}
 use Rattle.token.specs.declared.memory.DataCell.the-variants as dat
-use Rattle.token.specs.Table.{Stacks, Row, table, changed}
+use Rattle.token.specs.Table.{Stacks, withLetters, Row, table, changed}
+use Rattle.token.specs.State.{onlyDatas}
 use Rattle.token.specs.Next.{firstRow}
 use Rattle.geometry.specs.Labels.{Sign, plus, opposite, Label, on, flip, Fits, at-root, at-number, at-successor, at-function, at-pair, at-iterator, at-left-counter, at-right-counter, at-transfer, Plain}
 use Rattle.homecoming.proofs.Leaves.{Leads, Asks, twice-opposite, no-question}
@@ -43,9 +43,6 @@ is-kind κ None e = let z : _≡_ {A = ℕ} 0 1 = cc in absurd (omega arith)
 is-kind κ (Some ι) e =
     let same : kindNumber ι ≡ kindNumber κ = grind (arith, tells) in
     sym (kind-again ι) ∙ ap kindOf same ∙ kind-again κ
-
-pub same-kind : {κ ι : Kind} → Some κ ≡ Some ι → κ ≡ ι
-same-kind e = cc
 
 -- the port by which what comes to a port leaves, and the letters then; the same way leads back
 abbrev pub across : Option Kind → Port → List Letter → Port × List Letter
@@ -89,7 +86,7 @@ among a b c Third = c
 
 -- a token's stacks with nothing on i and on the shelves
 abbrev pub stacked : List Letter → List DataCell → Stacks
-stacked s d = record { letters = s; iters = []; datas = d; shelves = replicate 64 [] }
+stacked s d = withLetters s (onlyDatas d)
 
 -- the token's table has a row for what comes to the port, by which it leaves so
 pub record Acts (κ : Kind) (p : Port) (v : ℕ) (s : Stacks) (o : Port) (t : Stacks) : Type 0 where

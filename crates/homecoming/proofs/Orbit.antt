@@ -18,7 +18,7 @@ use Rattle.token.specs.declared.memory.Letter.{Letter}
 use Rattle.geometry.specs.Labels.{Label, flip, Fits, at-root, networkWeight, successorNodes}
 use Rattle.homecoming.specs.Home.{Network}
 use Rattle.homecoming.proofs.Leaves.{Asks}
-use Rattle.homecoming.proofs.Nodes.{isKind, is-kind, same-kind, across, across-twice, among, Crosses, Leaves, passes, not-root, at-successor-node}
+use Rattle.homecoming.proofs.Nodes.{isKind, is-kind, across, across-twice, among, Crosses, Leaves, passes, not-root, at-successor-node}
 use Rattle.homecoming.proofs.Pigeonhole.{In, count, count-all, few-in, Least, least}
 use Rattle.token.proofs.Ports.{node-of, place-of, offset-of, port-of}
 use Rattle.homecoming.proofs.Numbering.{part-of, inside-low, inside-is}
@@ -71,33 +71,30 @@ root-asks : (a b c : Label) → Fits Root a b c → Asks (flip a) []
 root-asks a b c at-root = refl
 
 module _ (ns : List Node) (label : ℕ → Label) (g : Network ns label) where
-  -- what is known of the node of a question's port
-  pub record Place (p : ℕ) (s : List Letter) : Type 0 where
-    pub low : p / 3 < length ns
-    pub kind : Kind
-    pub is : kindAt ns p ≡ Some kind
-    pub fits : Fits kind (label (3 * (p / 3))) (label (3 * (p / 3) + 1)) (label (3 * (p / 3) + 2))
-    pub owned : offset (placeOf p) < arity kind
-    pub asks : Asks (among (label (3 * (p / 3))) (label (3 * (p / 3) + 1)) (label (3 * (p / 3) + 2)) (placeOf p)) s
+  -- no number answers at the position
+  abbrev pub Passing : Position → Type 0
+  Passing x = isKind Number (kindAt ns (x .0)) ≡ false
 
-  pub at : (x : Position) → Question ns label x → Place (x .0) (x .1)
-  at x q =
+  -- what is known of a question at a node of kind κ
+  pub record At (κ : Kind) (x : Position) : Type 0 where
+    pub low : x .0 / 3 < length ns
+    pub fits : Fits κ (label (3 * (x .0 / 3))) (label (3 * (x .0 / 3) + 1)) (label (3 * (x .0 / 3) + 2))
+    pub owned : offset (placeOf (x .0)) < arity κ
+    pub asks : Asks (among (label (3 * (x .0 / 3))) (label (3 * (x .0 / 3) + 1)) (label (3 * (x .0 / 3) + 2)) (placeOf (x .0))) (x .1)
+
+  pub at : (x : Position) → Question ns label x → (κ : Kind) → kindAt ns (x .0) ≡ Some κ → At κ x
+  at x q κ e =
       let p = x .0 in
-      let h = inside-low ns p (q .0 .lies) in
-      let k = g .sound .kinds (p / 3) h in
-      let o : p % 3 < arity (k .0) = subst (λ o. Below (p % 3) o) (k .1) (q .0 .owned) in
       record
-      { low = h
-      ; kind = k .0
-      ; is = k .1
-      ; fits = g .labelled .fits (p / 3) (k .0) (k .1)
-      ; owned = subst (λ i. i < arity (k .0)) (sym (offset-of p)) o
+      { low = inside-low ns p (q .0 .lies)
+      ; fits = g .labelled .fits (p / 3) κ e
+      ; owned = subst (λ i. i < arity κ) (sym (offset-of p)) (subst (λ o. Below (p % 3) o) e (q .0 .owned))
       ; asks = subst (λ a. Asks a (x .1)) (sym (among-label label (p / 3) (placeOf p) ∙ ap label (port-of p))) (q .1)
       }
 
   has-port : (k : ℕ) (κ : Kind) → k < length ns → nodeAt ns k .kind ≡ Some κ → (q : Port) → offset q < arity κ → Has ns (portAt k q)
   has-port k κ h e q o =
-      let small = g .few in
+      let few = g .few in
       let node = node-of k q in
       record
       { lies = inside-is ns (portAt k q) (omega arith) (omega arith)
@@ -105,7 +102,7 @@ module _ (ns : List Node) (label : ℕ → Label) (g : Network ns label) where
             (subst (λ j. Below (offset q) (nodeAt ns j .kind)) (sym node) (subst (λ o. Below (offset q) o) (sym e) o))
       }
 
-  -- a question passes each node but a number, and leaves as a question
+  -- a question that passes the node leaves it as a question
   pub record Out (x : Position) : Type 0 where
     pub has : Has ns (over ns x .0)
     pub asks : Asks (flip (label (over ns x .0))) (over ns x .1)
@@ -113,46 +110,45 @@ module _ (ns : List Node) (label : ℕ → Label) (g : Network ns label) where
     pub is : kindAt ns (x .0) ≡ Some kind
     pub crosses : Crosses kind (placeOf (x .0)) (x .1) (across (kindAt ns (x .0)) (placeOf (x .0)) (x .1))
 
-  pub out : (x : Position) → Question ns label x → isKind Number (kindAt ns (x .0)) ≡ false → Out x
+  pub out : (x : Position) → Question ns label x → Passing x → Out x
   out x q e =
       let p = x .0 in
       let k = p / 3 in
-      let a = at x q in
-      let κ = a .kind in
+      let found = g .sound .kinds k (inside-low ns p (q .0 .lies)) in
+      let κ = found .0 in
+      let is = found .1 in
+      let a = at x q κ is in
       let l : Leaves κ (label (3 * k)) (label (3 * k + 1)) (label (3 * k + 2)) (placeOf p) (x .1) (across (kindAt ns p) (placeOf p) (x .1))
-            = subst (λ o. Leaves κ (label (3 * k)) (label (3 * k + 1)) (label (3 * k + 2)) (placeOf p) (x .1) (across o (placeOf p) (x .1))) (sym (a .is))
-                (passes κ _ _ _ (a .fits) (g .plain k κ (a .is)) (subst (λ o. isKind Number o ≡ false) (a .is) e) (placeOf p) (a .owned) (x .1) (a .asks)) in
-      let q = across (kindAt ns p) (placeOf p) (x .1) .0 in
+            = subst (λ o. Leaves κ (label (3 * k)) (label (3 * k + 1)) (label (3 * k + 2)) (placeOf p) (x .1) (across o (placeOf p) (x .1))) (sym is)
+                (passes κ _ _ _ (a .fits) (g .plain k κ is) (subst (λ o. isKind Number o ≡ false) is e) (placeOf p) (a .owned) (x .1) (a .asks)) in
+      let exit = across (kindAt ns p) (placeOf p) (x .1) .0 in
       record
-      { has = has-port k κ (a .low) (a .is) q (l .owned)
-      ; asks = subst (λ b. Asks (flip b) (over ns x .1)) (among-label label k q) (l .asks)
+      { has = has-port k κ (a .low) is exit (l .owned)
+      ; asks = subst (λ b. Asks (flip b) (over ns x .1)) (among-label label k exit) (l .asks)
       ; kind = κ
-      ; is = a .is
+      ; is = is
       ; crosses = l .crosses
       }
 
-  pub onward-asks : (x : Position) → Question ns label x → isKind Number (kindAt ns (x .0)) ≡ false → Question ns label (onward ns x)
+  onward-asks : (x : Position) → Question ns label x → Passing x → Question ns label (onward ns x)
   onward-asks x q e =
       let o = out x q e in
       (g .sound .linked (over ns x .0) (o .has) .there, subst (λ a. Asks a (over ns x .1)) (sym (g .labelled .ends (over ns x .0) (o .has))) (o .asks))
 
-  -- the wire leads back
-  pub along-back : (x : Position) → Question ns label x → isKind Number (kindAt ns (x .0)) ≡ false → along ns (onward ns x) ≡ over ns x
+  -- the wire leads back, and the node too, so no two questions go on to the same
+  along-back : (x : Position) → Question ns label x → Passing x → along ns (onward ns x) ≡ over ns x
   along-back x q e = ap (λ p. (p, over ns x .1)) (g .sound .linked (over ns x .0) (out x q e .has) .back)
 
-  undo : (x : Position) → Question ns label x → isKind Number (kindAt ns (x .0)) ≡ false → over ns (along ns (onward ns x)) ≡ x
+  undo : (x : Position) → Question ns label x → Passing x → over ns (along ns (onward ns x)) ≡ x
   undo x q e = ap (over ns) (along-back x q e) ∙ over-twice ns x
 
-  onward-injective : (x y : Position) → Question ns label x → Question ns label y → isKind Number (kindAt ns (x .0)) ≡ false → isKind Number (kindAt ns (y .0)) ≡ false → onward ns x ≡ onward ns y → x ≡ y
+  onward-injective : (x y : Position) → Question ns label x → Question ns label y → Passing x → Passing y → onward ns x ≡ onward ns y → x ≡ y
   onward-injective x y q u e f h = sym (undo x q e) ∙ ap (λ z. over ns (along ns z)) h ∙ undo y u f
 
-  some-node : 0 < length ns
-  some-node = nonempty ns (g .sound .root)
-
   pub root-has : Has ns 0
-  root-has = record { lies = inside-is ns 0 some-node (omega arith); owned = subst (λ o. Below 0 o) (sym (g .sound .root)) (omega arith) }
+  root-has = record { lies = inside-is ns 0 (nonempty ns (g .sound .root)) (omega arith); owned = subst (λ o. Below 0 o) (sym (g .sound .root)) (omega arith) }
 
-  pub opening-asks : Question ns label (orbit ns 0)
+  opening-asks : Question ns label (orbit ns 0)
   opening-asks =
       let m = g .sound .linked 0 root-has in
       (m .there, subst (λ a. Asks a []) (sym (g .labelled .ends 0 root-has)) (root-asks _ _ _ (g .labelled .fits 0 Root (g .sound .root))))
@@ -160,13 +156,11 @@ module _ (ns : List Node) (label : ℕ → Label) (g : Network ns label) where
   -- no question comes to node 0
   pub not-home : (x : Position) → Question ns label x → 0 ≡ x .0 / 3 → ⊥
   not-home x q h =
-      let a = at x q in
-      let k = x .0 / 3 in
-      let e : a .kind ≡ Root = same-kind (sym (a .is) ∙ ap (λ k. nodeAt ns k .kind) (sym h) ∙ g .sound .root) in
-      not-root _ _ _ (subst (λ κ. Fits κ (label (3 * k)) (label (3 * k + 1)) (label (3 * k + 2))) e (a .fits)) (placeOf (x .0))
-      (subst (λ κ. offset (placeOf (x .0)) < arity κ) e (a .owned)) (x .1) (a .asks)
+      let a = at x q Root (ap (λ k. nodeAt ns k .kind) (sym h) ∙ g .sound .root) in
+      not-root _ _ _ (a .fits) (placeOf (x .0)) (a .owned) (x .1) (a .asks)
 
-  not-before : (x : Position) → Question ns label x → isKind Number (kindAt ns (x .0)) ≡ false → orbit ns 0 ≡ onward ns x → ⊥
+  -- so none goes on to the opening
+  not-before : (x : Position) → Question ns label x → Passing x → orbit ns 0 ≡ onward ns x → ⊥
   not-before x q e h =
       let same : 0 ≡ over ns x .0 = sym (g .sound .linked 0 root-has .back) ∙ ap (λ z. along ns z .0) h ∙ ap (λ z. z .0) (along-back x q e) in
       let node = node-of (x .0 / 3) (across (kindAt ns (x .0)) (placeOf (x .0)) (x .1) .0) in
@@ -174,7 +168,7 @@ module _ (ns : List Node) (label : ℕ → Label) (g : Network ns label) where
 
   -- no number is met before the m-th position
   abbrev pub Going : ℕ → Type 0
-  Going m = (i : ℕ) → i < m → isKind Number (kindAt ns (orbit ns i .0)) ≡ false
+  Going m = (i : ℕ) → i < m → Passing (orbit ns i)
 
   pub orbit-asks : (m : ℕ) → Going m → (i : ℕ) → i ≤ m → Question ns label (orbit ns i)
   orbit-asks m going zero h = opening-asks
@@ -205,24 +199,22 @@ module _ (ns : List Node) (label : ℕ → Label) (g : Network ns label) where
   abbrev pub passesSuccessor : ℕ → Bool
   passesSuccessor i = isKind Successor (kindAt ns (orbit ns i .0))
 
-  at-successor-is : (x : Position) → Question ns label x → isKind Successor (kindAt ns (x .0)) ≡ true → (kindAt ns (x .0) ≡ Some Successor) × (_≡_ {A = Position} (3 * (x .0 / 3) + 1, []) x)
+  -- a question passes a successor node always at the same position
+  at-successor-is : (x : Position) → Question ns label x → kindAt ns (x .0) ≡ Some Successor → _≡_ {A = Position} (3 * (x .0 / 3) + 1, []) x
   at-successor-is x q e =
-      let a = at x q in
-      let k = x .0 / 3 in
-      let is = is-kind Successor (kindAt ns (x .0)) e in
-      let f : a .kind ≡ Successor = same-kind (sym (a .is) ∙ is) in
-      let o = at-successor-node _ _ _ (subst (λ κ. Fits κ (label (3 * k)) (label (3 * k + 1)) (label (3 * k + 2))) f (a .fits)) (placeOf (x .0))
-            (subst (λ κ. offset (placeOf (x .0)) < arity κ) f (a .owned)) (x .1) (a .asks) in
-      (is, ap (λ o. (portAt k (o .0), o .1)) o ∙ ap (λ p. (p, x .1)) (port-of (x .0)))
+      let a = at x q Successor e in
+      let o = at-successor-node _ _ _ (a .fits) (placeOf (x .0)) (a .owned) (x .1) (a .asks) in
+      ap (λ o. (portAt (x .0 / 3) (o .0), o .1)) o ∙ ap (λ p. (p, x .1)) (port-of (x .0))
 
-  -- each successor node is passed at most once
+  -- so each is passed at most once
   pub few-successors : (m : ℕ) → Going m → (i : ℕ) → i ≤ suc m → count passesSuccessor i ≤ successorNodes ns
   few-successors m going i h =
       let few = few-in passesSuccessor i (successorList ns) (orbit ns)
             (λ j b e.
+                let x = orbit ns j in
                 let q = orbit-asks m going j (omega arith) in
-                let a = at-successor-is (orbit ns j) q e in
-                subst (λ x. In (successorList ns) x) (a .1) (successor-in ns (orbit ns j .0 / 3) (at (orbit ns j) q .low) (a .0)))
+                let is = is-kind Successor (kindAt ns (x .0)) e in
+                subst (λ y. In (successorList ns) y) (at-successor-is x q is) (successor-in ns (x .0 / 3) (inside-low ns (x .0) (q .0 .lies)) is))
             (λ j k b c _ _ e. apart m going j k b (omega arith) e) in
       let len = successorList-length ns in
       omega arith

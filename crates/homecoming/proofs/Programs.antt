@@ -1,7 +1,6 @@
 -- From derivations to networks.
-use mathlib.Core.Path.{_≡_, subst}
+use mathlib.Core.Path.{subst}
 use mathlib.Core.List.{[]}
-use Prim.Native.Nat.{_+_, _*_, _≤_}
 use native.Mathlib.Omega.{arith}
 use Rattle.calculus.specs.Types.{N}
 use Rattle.calculus.specs.Terms.{Term}

@@ -1,10 +1,9 @@
 -- One step of the token, where its row is known and the memory suffices.
 use mathlib.Core.Path.{_≡_, refl, sym, ap, ap₂, _∙_, subst, subst₂}
-use mathlib.Core.Bool.{Bool, true, false, not, cond, _&&_}
+use mathlib.Core.Bool.{true}
 use mathlib.Core.List.{List, [], _∷_}
-use Prim.Native.Nat.{ℕ, zero, suc, _-_, _/_, _≤_}
+use Prim.Native.Nat.{ℕ, zero, suc, _/_, _≤_}
 use native.Mathlib.Omega.{arith}
-use lib.Dec.{eqb}
 use lib.ListN.{length, getD, replicate}
 use Rattle.std.proofs.shelf.Ways.{tells}
 use Rattle.std.specs.declared.option.Option.the-variants.{Some}
@@ -13,14 +12,12 @@ use Rattle.cells.specs.declared.kinds.Port.{Port}
 use Rattle.cells.specs.Ports.{Node, nodeAt, portAt, placeOf, link, linked}
 use Rattle.cells.specs.Sound.{Has, Sound}
 use Rattle.stack.specs.Shelving.{shelf}
-use Rattle.machine.specs.declared.reasons.Reason.{Reason}
-use Rattle.machine.specs.declared.reasons.Reason.the-variants.{Home, NoRow, Unlinked, Full, Overflow}
-use Rattle.machine.specs.Steps.{Next, to, ends, then}
+use Rattle.machine.specs.Steps.{to}
 use Rattle.token.specs.declared.memory.Letter.{Letter}
 use Rattle.token.specs.declared.memory.IterCell.{IterCell}
 use Rattle.token.specs.declared.memory.DataCell.{DataCell}
 use Rattle.token.specs.declared.memory.DataCell.the-variants as dat
-use Rattle.token.specs.Table.{Stacks, Row, changed}
+use Rattle.token.specs.Table.{Stacks}
 use Rattle.token.specs.State.{Rooms, State}
 use Rattle.token.specs.Next.{within, small, exitTo, next}
 use Rattle.token.proofs.Tests.{and-true}

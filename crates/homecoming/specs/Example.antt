@@ -3,8 +3,7 @@ use mathlib.Core.Path.{_≡_}
 use mathlib.Core.List.{[]}
 use Prim.Native.Nat.{ℕ, _+_, _*_}
 use Rattle.calculus.specs.Types.{N}
-use Rattle.calculus.specs.Terms.{successors}
-use Rattle.calculus.specs.Typing.{Typed, ty-app, ty-lam, ty-succ, ty-var, ty-num, here, none-left, weight, tallest}
+use Rattle.calculus.specs.Typing.{Typed, ty-app, ty-lam, ty-succ, ty-var, ty-num, here, none-left, weight}
 use Rattle.geometry.specs.Derivations.{label}
 use Rattle.geometry.specs.Examples.{applied}
 use Rattle.geometry.specs.Network.{network}

@@ -1,7 +1,7 @@
 -- Closed programs of type N without iterator, by their derivations. Assumes nothing.
 use mathlib.Core.Path.{_≡_}
 use mathlib.Core.List.{[]}
-use Prim.Native.Nat.{ℕ, _+_, _*_, _≤_}
+use Prim.Native.Nat.{_+_, _*_, _≤_}
 use Rattle.cells.specs.Ports.{absent}
 use Rattle.calculus.specs.Types.{N}
 use Rattle.calculus.specs.Terms.{Term, successors, iterators, nodes}
