@@ -4,3 +4,4 @@ pub mod Retracing
 pub mod Standing
 pub mod Going
 pub mod Whole
+pub mod Answering

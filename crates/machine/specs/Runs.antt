@@ -1,6 +1,6 @@
 -- Whole runs of a walk: any calls, in any order and however often, over any machine and any readings.
 use mathlib.Core.Path.{_≡_}
-use mathlib.Core.List.{List, [], _∷_, _++_}
+use mathlib.Core.List.{List, [], _∷_, _++_, map, reverse}
 use Prim.Native.Nat.{ℕ, _+_}
 use lib.IntN.{ℤ, pos, negℤ, _-ℤ_}
 use Rattle.std.specs.declared.option.Option.{Option}
@@ -33,6 +33,10 @@ abbrev pub latest : List ℤ → Option ℤ
 latest [] = None
 latest (s ∷ ps) = Some s
 
+-- the sums of the probes of a stack, the latest first
+abbrev pub latest-first : {P : Type 0} → (P → ℤ) → List P → List ℤ
+latest-first sum ps = reverse (map sum ps)
+
 -- one call at p with the probes ps open: its answer, the place and the open probes after it,
 -- and the steps that it granted forward and back
 pub data Does {S Q R : Type 0} (next : S → Next S) (turned : S → S) (reads : S → ℤ → Q → R → Type 0) : Place S → List ℤ → Call Q → Answer R → Place S → List ℤ → ℕ → ℕ → Type 0 where
@@ -45,6 +49,12 @@ pub data Does {S Q R : Type 0} (next : S → Next S) (turned : S → S) (reads :
   brings-none : {p : Place S} → Does next turned reads p [] call.BringBack answer.NoProbe p [] 0 0
   keeps-none : {p : Place S} → Does next turned reads p [] call.Keep answer.NoProbe p [] 0 0
   reads-of : {p : Place S} {ps : List ℤ} {q : Q} {t : R} → reads (p .state) (p .sum) q t → Does next turned reads p ps (call.Read q) (answer.Read t) p ps 0 0
+
+-- the same, whatever the counts
+pub record Did {S Q R : Type 0} (next : S → Next S) (turned : S → S) (reads : S → ℤ → Q → R → Type 0) (p : Place S) (ps : List ℤ) (c : Call Q) (a : Answer R) (q : Place S) (qs : List ℤ) : Type 0 where
+  pub forward : ℕ
+  pub back : ℕ
+  pub does : Does next turned reads p ps c a q qs forward back
 
 -- from o, these calls with these answers led to p, with the probes ps open;
 -- in all they granted f steps forward and b back

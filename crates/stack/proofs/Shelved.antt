@@ -18,10 +18,11 @@ use Rattle.stack.specs.declared.edits.Edit.{Edit}
 use Rattle.stack.specs.declared.edits.Edit.the-variants.{Keep, Push, Pop, Replace, Split, Join}
 use Rattle.stack.specs.Cells.{stacked}
 use Rattle.stack.specs.Edits.{edited, rest-of, growth, Asked}
-use Rattle.stack.specs.Shelving.{tabulate, slot, shelved, shelves, complete, shelf, with-shelf, shelf-room, cells-held, Shelf-answered, Standing}
+use Rattle.stack.specs.Shelving.{tabulate, slot, shelved, shelves, complete, shelf, with-shelf, shelf-room, cells-held, Shelf-answered, Shelf-place}
 use Rattle.stack.specs.declared.shelving.Shelves.{Shelves}
 use Rattle.stack.proofs.Stacked.{stacked-count, stacked-none, stacked-again}
 use Rattle.stack.proofs.Tables.{tabulate-length, tabulate-at, tabulate-set, tabulate-constant}
+use Rattle.stack.proofs.Putting.{with-shelf-same}
 use Rattle.stack.proofs.Slots.{slot-in, slot-out, slot-length, slot-same, slot-other}
 
 -- there are 64 of them
@@ -93,11 +94,6 @@ shelf-fits s (suc k) =
           ]
     ]
 
--- shelf j put where it was
-pub with-shelf-same : {X : Type 0} (j : ℕ) (ls : List (List X)) → with-shelf j (shelf j ls) ls ≡ ls
-with-shelf-same zero ls = refl
-with-shelf-same (suc k) ls = set-getD ls k []
-
 held-push : {X : Type 0} (ls : List (List X)) (xs : List X) → cells-held (ls ++ xs ∷ []) ≡ cells-held ls + length xs
 held-push [] xs = omega arith
 held-push (ys ∷ ls) xs = omega (arith, held-push ls xs)
@@ -117,15 +113,15 @@ pub with-shelf-next : {X : Type 0} (ls : List (List X)) (xs : List X) (j k : ℕ
 with-shelf-next ls xs j k e = let d : j ≡ suc k = omega arith in ap (λ n. with-shelf n xs ls) d
 
 -- the shelf after the first k
-pub standing-shelf : {X : Type 0} (s : Shelves X) (j k : ℕ) → Standing s j k → shelf j (shelves s) ≡ getD (shelves s) k []
-standing-shelf s j k p = shelf-next (shelves s) j k (p .next)
+pub place-shelf : {X : Type 0} (s : Shelves X) (j k : ℕ) → Shelf-place s j k → shelf j (shelves s) ≡ getD (shelves s) k []
+place-shelf s j k p = shelf-next (shelves s) j k (p .next)
 
-pub standing-fits : {X : Type 0} (s : Shelves X) (j k n : ℕ) → Standing s j k → n ≡ length (getD (shelves s) k []) → n ≤ 64
-standing-fits s j k n p e = omega (arith, ap length (standing-shelf s j k p), shelf-fits s j, p .room)
+pub place-fits : {X : Type 0} (s : Shelves X) (j k n : ℕ) → Shelf-place s j k → n ≡ length (getD (shelves s) k []) → n ≤ 64
+place-fits s j k n p e = omega (arith, ap length (place-shelf s j k p), shelf-fits s j, p .room)
 
-pub standing-cells : {X : Type 0} (s : Shelves X) (j k n : ℕ) → Standing s j k → n ≡ length (getD (shelves s) k []) → stacked n (between (64 * k) (64 * k + 64) (s .cells .now)) ≡ shelf j (shelves s)
+pub place-cells : {X : Type 0} (s : Shelves X) (j k n : ℕ) → Shelf-place s j k → n ≡ length (getD (shelves s) k []) → stacked n (between (64 * k) (64 * k + 64) (s .cells .now)) ≡ shelf j (shelves s)
 unfolding shelves
-standing-cells s j k n p e = shelved-cells (s .heights) (s .cells .now) k n (p .one) (p .whole) e ∙ sym (standing-shelf s j k p)
+place-cells s j k n p e = shelved-cells (s .heights) (s .cells .now) k n (p .one) (p .whole) e ∙ sym (place-shelf s j k p)
 
 -- an edit that takes no cell leaves nothing of nothing
 edited-nothing : {X : Type 0} (e : Edit X) → growth e ≡ 0 → edited e [] ≡ []
@@ -146,9 +142,9 @@ missing-answered s j n e (Ok _) z m a =
 missing-answered s j n e (Err r) z m a = (a .0, omega (arith, a .1), refl)
 
 -- an edit of a shelf that has its cells: its height in them is then n, and they hold ys
-pub standing-edited : {X : Type 0} (s t : Shelves X) (j k n : ℕ) (e : Edit X) (ys : List X) → Standing s j k → length (s .heights) ≡ 64 → length ys ≡ 64 → t .heights ≡ set (s .heights) k n → t .cells .now ≡ putMid (64 * k) (64 * k + 64 - 64 * k) (s .cells .now) ys → stacked n ys ≡ edited e (shelf j (shelves s)) → shelves t ≡ with-shelf j (edited e (shelf j (shelves s))) (shelves s)
+pub place-edited : {X : Type 0} (s t : Shelves X) (j k n : ℕ) (e : Edit X) (ys : List X) → Shelf-place s j k → length (s .heights) ≡ 64 → length ys ≡ 64 → t .heights ≡ set (s .heights) k n → t .cells .now ≡ putMid (64 * k) (64 * k + 64 - 64 * k) (s .cells .now) ys → stacked n ys ≡ edited e (shelf j (shelves s)) → shelves t ≡ with-shelf j (edited e (shelf j (shelves s))) (shelves s)
 unfolding shelves
-standing-edited s t j k n e ys p hl yl ht ct d =
+place-edited s t j k n e ys p hl yl ht ct d =
     let xs = s .cells .now in
     let zl = same-len-mid (64 * k) (64 * k + 64 - 64 * k) xs ys (yl ∙ sym (slot-length k xs (p .whole))) in
     ap (λ hs. shelved hs (t .cells .now)) ht
@@ -158,30 +154,30 @@ standing-edited s t j k n e ys p hl yl ht ct d =
     ∙ sym (with-shelf-next (shelves s) (edited e (shelf j (shelves s))) j k (p .next))
 
 -- where the cells of a shelf are as they were, all shelves are
-pub standing-kept : {X : Type 0} (s t : Shelves X) (j k : ℕ) (ys : List X) → Standing s j k → length (s .heights) ≡ 64 → ys ≡ between (64 * k) (64 * k + 64) (s .cells .now) → t .heights ≡ s .heights → t .cells .now ≡ putMid (64 * k) (64 * k + 64 - 64 * k) (s .cells .now) ys → shelves t ≡ shelves s
+pub place-kept : {X : Type 0} (s t : Shelves X) (j k : ℕ) (ys : List X) → Shelf-place s j k → length (s .heights) ≡ 64 → ys ≡ between (64 * k) (64 * k + 64) (s .cells .now) → t .heights ≡ s .heights → t .cells .now ≡ putMid (64 * k) (64 * k + 64 - 64 * k) (s .cells .now) ys → shelves t ≡ shelves s
 unfolding shelves
-standing-kept s t j k ys p hl same ht ct =
+place-kept s t j k ys p hl same ht ct =
     let xs = s .cells .now in
     let h = getD (s .heights) k 0 in
     let d : stacked h ys ≡ edited Keep (shelf j (shelves s)) =
     ap (stacked h) (same ∙ sym (slot-in k xs (p .whole)))
     ∙ sym (shelved-at (s .heights) xs k (p .one))
-    ∙ sym (standing-shelf s j k p) in
-    standing-edited s t j k h Keep ys p hl (ap length same ∙ slot-length k xs (p .whole)) (ht ∙ sym (set-getD (s .heights) k 0)) ct d
+    ∙ sym (place-shelf s j k p) in
+    place-edited s t j k h Keep ys p hl (ap length same ∙ slot-length k xs (p .whole)) (ht ∙ sym (set-getD (s .heights) k 0)) ct d
     ∙ with-shelf-same j (shelves s)
 
 -- and so many shelves have all their cells as before
-pub standing-complete : {X : Type 0} (s t : Shelves X) (j k : ℕ) (ys : List X) → Standing s j k → length ys ≡ 64 → t .cells .now ≡ putMid (64 * k) (64 * k + 64 - 64 * k) (s .cells .now) ys → complete t ≡ complete s
+pub place-complete : {X : Type 0} (s t : Shelves X) (j k : ℕ) (ys : List X) → Shelf-place s j k → length ys ≡ 64 → t .cells .now ≡ putMid (64 * k) (64 * k + 64 - 64 * k) (s .cells .now) ys → complete t ≡ complete s
 unfolding complete
-standing-complete s t j k ys p yl ct =
+place-complete s t j k ys p yl ct =
     let xs = s .cells .now in
     let zl = same-len-mid (64 * k) (64 * k + 64 - 64 * k) xs ys (yl ∙ sym (slot-length k xs (p .whole))) in
     ap (λ n. min 64 (n / 64)) (ap length ct ∙ zl)
 
-pub standing : {X : Type 0} (s : Shelves X) (j : ℕ) → 0 < j → j ≤ complete s → Standing s j (j - 1)
+pub shelf-placed : {X : Type 0} (s : Shelves X) (j : ℕ) → 0 < j → j ≤ complete s → Shelf-place s j (j - 1)
 unfolding complete
-standing s zero p h = let z : ⊥ = omega arith in elim z [ ]
-standing s (suc k) p h =
+shelf-placed s zero p h = let z : ⊥ = omega arith in elim z [ ]
+shelf-placed s (suc k) p h =
     let n = min 64 (length (s .cells .now) / 64) in
     let e : k ≡ suc k - 1 = omega arith in
     let b : ltb k n ≡ true = grind (arith, tells) in

@@ -63,7 +63,7 @@ Shelf-answered ls n j e (Ok _) ms = (length (shelf j ls) + growth e ≤ shelf-ro
 Shelf-answered ls n j e (Err r) ms = (r ≡ Full) × (shelf-room n j < length (shelf j ls) + growth e) × (ms ≡ ls)
 
 -- shelf j has all its cells, and k shelves stand before it
-pub record Standing {X : Type 0} (s : Shelves X) (j k : ℕ) : Type 0 where
+pub record Shelf-place {X : Type 0} (s : Shelves X) (j k : ℕ) : Type 0 where
   pub next : j ≡ k + 1
   pub one : k < 64
   pub whole : 64 * k + 64 ≤ length (now (s .cells))

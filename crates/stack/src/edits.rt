@@ -2,7 +2,7 @@ ghost use mathlib.Core.Path.{_≡_};
 ghost use Rattle.stack.specs.Edits.{growth};
 
 // What one step does to one stack.
-#[derive(Clone, Copy, PartialEq, Eq, Debug)]
+#[derive(Clone, Copy)]
 pub enum Edit<T> {
     Keep,
     Push(T),

@@ -6,7 +6,7 @@ ghost use mathlib.Core.Path.{_≡_};
 ghost use Rattle.std.specs.declared.option.Option.the-variants.{Some, None};
 ghost use Rattle.stack.specs.declared.edits.Edit.the-variants.{Push};
 ghost use Rattle.stack.specs.Edits.{top-of, rest-of, Asked};
-ghost use Rattle.stack.specs.Shelving.{shelves, complete, shelf, with-shelf, shelf-room, cells-held, Shelf-answered, Standing};
+ghost use Rattle.stack.specs.Shelving.{shelves, complete, shelf, with-shelf, shelf-room, cells-held, Shelf-answered, Shelf-place};
 use crate::Edit;
 use crate::cells::ask;
 use crate::cells::edit_cells;
@@ -44,7 +44,7 @@ impl<'a, T: Copy> Shelves<'a, T> {
 
     // How many shelves stand before shelf j, if it has all its cells.
     fn place(&self, j: u32) -> Option<usize>
-        ensures { λ r. ⌜ elim r [ Some k ↦ Standing (now (self .entry)) j k | None ↦ shelf-room (complete (now (self .entry))) j ≡ 0 ] ⌝ }
+        ensures { λ r. ⌜ elim r [ Some k ↦ Shelf-place (now (self .entry)) j k | None ↦ shelf-room (complete (now (self .entry))) j ≡ 0 ] ⌝ }
     {
         if j > 0 && j as usize <= self.complete() {
             Some(j as usize - 1)

@@ -36,7 +36,7 @@ impl<'a, T: Copy> Stack<'a, T> {
     pub fn height(&self) -> usize
         ensures { λ r. ⌜ r ≡ length (held (now (self .entry))) ⌝ }
     {
-        self.height.min(self.cells.len())
+        self.height.min(self.room())
     }
 
     // How many cells it can hold.

@@ -3,3 +3,6 @@ pub mod Ports
 pub mod Rows
 pub mod Steps
 pub mod Laws
+pub mod Kept
+pub mod Distances
+pub mod Reaching

@@ -16,7 +16,7 @@ node-of k First = omega arith
 node-of k Second = omega arith
 node-of k Third = omega arith
 
-rest-of : (k : ℕ) (p : Port) → portAt k p % 3 ≡ offset p
+pub rest-of : (k : ℕ) (p : Port) → portAt k p % 3 ≡ offset p
 rest-of k First = omega arith
 rest-of k Second = omega arith
 rest-of k Third = omega arith

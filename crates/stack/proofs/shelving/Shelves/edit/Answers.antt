@@ -8,9 +8,9 @@ use borrow.Rule.Slice.PartMut.{putMid}
 use Rattle.std.proofs.shelf.Results.{err-from-errBy}
 use Rattle.stack.specs.Edits.{edited, growth}
 use Rattle.stack.specs.declared.shelving.Shelves.{Shelves}
-use Rattle.stack.specs.Shelving.{shelves, complete, shelf, shelf-room, Standing}
+use Rattle.stack.specs.Shelving.{shelves, complete, shelf, shelf-room, Shelf-place}
 use Rattle.stack.proofs.Slots.{slot-length}
-use Rattle.stack.proofs.Shelved.{missing-answered, standing-fits, standing-shelf, standing-cells, standing-edited, standing-kept, standing-complete}
+use Rattle.stack.proofs.Shelved.{missing-answered, place-fits, place-shelf, place-cells, place-edited, place-kept, place-complete}
 use Rattle.stack.proofs.shelving.Shelves.edit.Needs as need
 
 pub returns-in-rest : need.returns-in-rest
@@ -24,7 +24,7 @@ pub edit-cells-requires : need.edit-cells-requires
 edit-cells-requires g c κs =
     let s = c .args .self .now in
     let p = c .in-Some .ensures tt in
-    omega (arith, slot-length (c .in-Some .k) (s .cells .now) (p .whole), standing-fits s (c .args .j) (c .in-Some .k) (c .height-height .result) p (c .height-height .ensures))
+    omega (arith, slot-length (c .in-Some .k) (s .cells .now) (p .whole), place-fits s (c .args .j) (c .in-Some .k) (c .height-height .result) p (c .height-height .ensures))
 
 pub returns-in-Break-height : need.returns-in-Break-height
 returns-in-Break-height g c =
@@ -39,8 +39,8 @@ returns-in-Break-height g c =
     let e = c .in-Break-height .ensures tt in
     let yl : length ys ≡ 64 = ap length (e .2) ∙ slot-length k (s .cells .now) (p .whole) in
     let few : shelf-room (complete s) j < length (shelf j (shelves s)) + growth (c .args .e) =
-    omega (arith, slot-length k (s .cells .now) (p .whole), p .room, ap length (standing-shelf s j k p), c .height-height .ensures, e .1) in
-    rw (q .1, q .2) record { answer = (e .0, few, standing-kept s t j k ys p hl (e .2) refl refl); complete = standing-complete s t j k ys p yl refl }
+    omega (arith, slot-length k (s .cells .now) (p .whole), p .room, ap length (place-shelf s j k p), c .height-height .ensures, e .1) in
+    rw (q .1, q .2) record { answer = (e .0, few, place-kept s t j k ys p hl (e .2) refl refl); complete = place-complete s t j k ys p yl refl }
 
 pub returns : need.returns
 returns g c =
@@ -56,6 +56,6 @@ returns g c =
     let sl = slot-length k (s .cells .now) (p .whole) in
     let yl : length ys ≡ 64 = c .edit-cells .kept .cells ∙ sl in
     let enough : length (shelf j (shelves s)) + growth (c .args .e) ≤ shelf-room (complete s) j =
-    omega (arith, sl, p .room, ap length (standing-shelf s j k p), c .height-height .ensures, e .0) in
-    let d = e .2 ∙ ap (edited (c .args .e)) (standing-cells s j k (c .height-height .result) p (c .height-height .ensures)) in
-    record { answer = (enough, standing-edited s t j k n (c .args .e) ys p hl yl refl refl d); complete = standing-complete s t j k ys p yl refl }
+    omega (arith, sl, p .room, ap length (place-shelf s j k p), c .height-height .ensures, e .0) in
+    let d = e .2 ∙ ap (edited (c .args .e)) (place-cells s j k (c .height-height .result) p (c .height-height .ensures)) in
+    record { answer = (enough, place-edited s t j k n (c .args .e) ys p hl yl refl refl d); complete = place-complete s t j k ys p yl refl }

@@ -1,8 +1,11 @@
-use mathlib.Core.Path.{sym, _∙_}
-use Rattle.stack.specs.Stacks.{held}
+use mathlib.Core.Path.{sym, _∙_, ap}
+use Prim.Native.Nat.{min}
+use Rattle.stack.specs.Stacks.{held, room}
 use Rattle.stack.proofs.Stacked.{stacked-count}
 use Rattle.stack.proofs.stacks.Stack.height.Needs as need
 
 pub returns : need.returns
-unfolding held
-returns g c = c .min .ensures ∙ sym (stacked-count (c .args .self .now .cells .now) (c .args .self .now .height))
+unfolding held room
+returns g c =
+    let s = c .args .self .now in
+    c .min .ensures ∙ ap (min (s .height)) (c .room .ensures) ∙ sym (stacked-count (s .cells .now) (s .height))
