@@ -23,7 +23,7 @@ met = record
     ; needs = needs
     ; typed = networked applied derivation program
     ; suffices = sufficed applied derivation (rooms 1 2) needs
-    ; distance = record { home = _; reached = refl; brings = refl }
+    ; distance = record { last = _; way = refl; number = refl }
     ; longest = refl
     ; letters = refl
     ; datas = refl

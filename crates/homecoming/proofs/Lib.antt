@@ -1,7 +1,7 @@
 pub mod Leaves
 pub mod Nodes
 pub mod Pigeonhole
-pub mod Numbering
+pub mod Inside
 pub mod Questions
 pub mod Orbit
 pub mod Steps

@@ -20,8 +20,8 @@ use Rattle.homecoming.specs.Home.{Network}
 use Rattle.homecoming.proofs.Leaves.{Asks}
 use Rattle.homecoming.proofs.Nodes.{isKind, is-kind, across, across-twice, among, Crosses, Leaves, passes, not-root, at-successor-node}
 use Rattle.homecoming.proofs.Pigeonhole.{In, count, count-all, few-in, Least, least}
-use Rattle.token.proofs.Ports.{node-of, place-of, offset-of, port-of}
-use Rattle.homecoming.proofs.Numbering.{part-of, inside-low, inside-is}
+use Rattle.token.proofs.Ports.{node-of, rest-of, place-of, offset-of, port-of}
+use Rattle.homecoming.proofs.Inside.{inside-low, inside-is}
 use Rattle.homecoming.proofs.Questions.{Position, Question, questions, questions-length, question-in, successorList, successorList-length, successor-in}
 
 abbrev pub kindAt : List Node → ℕ → Option Kind
@@ -94,11 +94,11 @@ module _ (ns : List Node) (label : ℕ → Label) (g : Network ns label) where
 
   has-port : (k : ℕ) (κ : Kind) → k < length ns → nodeAt ns k .kind ≡ Some κ → (q : Port) → offset q < arity κ → Has ns (portAt k q)
   has-port k κ h e q o =
-      let few = g .few in
+      let few = g .numbered in
       let node = node-of k q in
       record
       { lies = inside-is ns (portAt k q) (omega arith) (omega arith)
-      ; owned = subst (λ i. Below i (nodeAt ns (portAt k q / 3) .kind)) (sym (part-of k q))
+      ; owned = subst (λ i. Below i (nodeAt ns (portAt k q / 3) .kind)) (sym (rest-of k q))
             (subst (λ j. Below (offset q) (nodeAt ns j .kind)) (sym node) (subst (λ o. Below (offset q) o) (sym e) o))
       }
 

@@ -23,10 +23,10 @@ networked t d p =
     let none = p .plain in
     let fits = p .few in
     record
-    { sound = sound t d (omega arith) (omega arith)
+    { numbered = omega arith
+    ; sound = sound t d (omega arith) (omega arith)
     ; labelled = labelled t d
     ; plain = plain t none
-    ; few = omega arith
     ; small = numbers-kept t 1000000000 (p .numbers)
     }
 

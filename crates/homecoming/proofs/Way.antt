@@ -95,7 +95,7 @@ module _ (ns : List Node) (label : ℕ → Label) (rs : Rooms) (g : Network ns l
         let low = b .low in
         let w = raised-balance (isKind Successor o) a d in
         let few = few-successor-nodes ns in
-        let size = g .few in
+        let size = g .numbered in
         record
         { number = raised o a
         ; low = omega arith
@@ -125,9 +125,9 @@ module _ (ns : List Node) (label : ℕ → Label) (rs : Rooms) (g : Network ns l
       { number = b .number
       ; steps = suc (double j)
       ; distance = record
-          { home = stands ns rs (link ns 0) 0 (stacked [] (dat.Number (b .number) ∷ []))
-          ; reached = ap (go next (suc (double j))) (opening (omega arith)) ∙ b .way ∙ ap (λ p. to (stands ns rs (link ns 0) p (stacked [] (dat.Number (b .number) ∷ [])))) (m .back)
-          ; brings = refl
+          { last = stands ns rs (link ns 0) 0 (stacked [] (dat.Number (b .number) ∷ []))
+          ; way = ap (go next (suc (double j))) (opening (omega arith)) ∙ b .way ∙ ap (λ p. to (stands ns rs (link ns 0) p (stacked [] (dat.Number (b .number) ∷ [])))) (m .back)
+          ; number = refl
           }
       ; odd = omega arith
       ; soon = omega arith

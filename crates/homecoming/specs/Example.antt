@@ -12,7 +12,8 @@ use Rattle.machine.specs.Steps.{ends, go}
 use Rattle.token.specs.declared.memory.DataCell.the-variants.{Question}
 use Rattle.token.specs.State.{Rooms, opened}
 use Rattle.token.specs.Next.{next}
-use Rattle.homecoming.specs.Home.{Network, Suffices, Distance}
+use Rattle.token.specs.Distance.{ToNumber}
+use Rattle.homecoming.specs.Home.{Network, Suffices}
 use Rattle.homecoming.specs.Programs.{Program, Needs}
 
 abbrev pub derivation : Typed [] applied N
@@ -28,7 +29,7 @@ pub record Met : Type 0 where
   pub typed : Network (network applied) (label derivation)
   pub suffices : Suffices (network applied) (label derivation) (rooms 1 2)
   -- 4 after 11 steps, one less than twice the weight 6
-  pub distance : Distance (network applied) (rooms 1 2) 4 11
+  pub distance : ToNumber (network applied) (rooms 1 2) 4 11
   pub longest : 11 + 1 ≡ 2 * weight derivation
   -- with one letter cell less, or one data cell less, the token is stopped
   pub letters : go next 11 (opened (network applied) (rooms 0 2) Question) ≡ ends Full

@@ -1,17 +1,12 @@
--- Port numbers: a port of a node, and ports that lie in cells.
-use mathlib.Core.Path.{_≡_, sym, ap, _∙_}
+-- Ports that lie in cells.
+use mathlib.Core.Path.{_≡_}
 use mathlib.Core.Bool.{true}
 use mathlib.Core.List.{List}
-use Prim.Native.Nat.{ℕ, _/_, _%_, _<_}
+use Prim.Native.Nat.{ℕ, _/_, _<_}
 use native.Mathlib.Omega.{arith}
 use lib.ListN.{length}
 use Rattle.std.proofs.shelf.Ways.{tells}
-use Rattle.cells.specs.declared.kinds.Port.{Port}
-use Rattle.cells.specs.Ports.{Node, offset, portAt, inside}
-use Rattle.token.proofs.Ports.{place-of, offset-of}
-
-pub part-of : (k : ℕ) (q : Port) → portAt k q % 3 ≡ offset q
-part-of k q = sym (offset-of (portAt k q)) ∙ ap offset (place-of k q)
+use Rattle.cells.specs.Ports.{Node, inside}
 
 pub inside-low : (ns : List Node) (p : ℕ) → inside ns p ≡ true → p / 3 < length ns
 unfolding inside
