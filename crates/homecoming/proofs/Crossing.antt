@@ -56,8 +56,8 @@ module _ (ns : List Node) (label : ℕ → Label) (rs : Rooms) (g : Network ns l
     away e = not-home ns label g x q (sym e)
 
     -- the token leaves by the port by which the question came
-    leaves : linked ns (portAt node (placeOf (x .0))) (link ns (portAt node (placeOf (x .0)))) ≡ true
-    leaves = subst (λ p. linked ns p (link ns p) ≡ true) (sym (port-of (x .0))) (linked-out ns (g .sound) (x .0) (q .0))
+    exits : linked ns (portAt node (placeOf (x .0))) (link ns (portAt node (placeOf (x .0)))) ≡ true
+    exits = subst (λ p. linked ns p (link ns p) ≡ true) (sym (port-of (x .0))) (linked-out ns (g .sound) (x .0) (q .0))
 
     module _ (e : isKind Number kind ≡ false) (d : List DataCell) (r : Room x d) (t : Room (onward ns x) (deeper kind d)) where
       abbrev exit : Port
@@ -90,10 +90,10 @@ module _ (ns : List Node) (label : ℕ → Label) (rs : Rooms) (g : Network ns l
           let u = stacked (x .1) (dat.Number (raised kind a) ∷ d) in
           ap (λ p. next (stands ns rs (onward ns x .0) p s)) back-there
           ∙ step ns rs (onward ns x .0) (over ns x .0) node exit (placeOf (x .0)) (crossing .kind) s u (node-of node exit) (place-of node exit) away
-            (linked-in ns (g .sound) (over ns x .0) (crossing .has)) (crossing .is)
-            (subst (λ k. Acts (crossing .kind) exit value (stacked (over ns x .1) (dat.Number a ∷ deeper k d)) (placeOf (x .0)) (stacked (x .1) (dat.Number (raised k a) ∷ d))) (sym (crossing .is)) (crossed .back value d a))
-            (held-number rs (over ns x .1) a (deeper kind d) (t .letters) (t .datas) b) (held-number rs (x .1) (raised kind a) d (r .letters) (r .datas) c)
-            leaves
+          (linked-in ns (g .sound) (over ns x .0) (crossing .has)) (crossing .is)
+          (subst (λ k. Acts (crossing .kind) exit value (stacked (over ns x .1) (dat.Number a ∷ deeper k d)) (placeOf (x .0)) (stacked (x .1) (dat.Number (raised k a) ∷ d))) (sym (crossing .is)) (crossed .back value d a))
+          (held-number rs (over ns x .1) a (deeper kind d) (t .letters) (t .datas) b) (held-number rs (x .1) (raised kind a) d (r .letters) (r .datas) c)
+          exits
           ∙ ap (λ p. to (stands ns rs p (link ns p) u)) (port-of (x .0))
 
     -- a number answers
@@ -106,5 +106,5 @@ module _ (ns : List Node) (label : ℕ → Label) (rs : Rooms) (g : Network ns l
         step ns rs (link ns (x .0)) (x .0) node (placeOf (x .0)) (placeOf (x .0)) Number s u refl refl away (linked-in ns (g .sound) (x .0) (q .0)) is
         (subst (λ p. Acts Number p value s p u) (sym p) (answers value (x .1) d))
         (held-question rs (x .1) d (r .letters) (r .datas)) (held-number rs (x .1) value d (r .letters) (r .datas) b)
-        leaves
+        exits
         ∙ ap (λ p. to (stands ns rs p (link ns p) u)) (port-of (x .0))

@@ -1,4 +1,4 @@
-pub mod Leaves
+pub mod Letters
 pub mod Nodes
 pub mod Pigeonhole
 pub mod Inside

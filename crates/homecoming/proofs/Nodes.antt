@@ -22,7 +22,7 @@ use Rattle.token.specs.Table.{Stacks, withLetters, Row, table, changed}
 use Rattle.token.specs.State.{onlyDatas}
 use Rattle.token.specs.Next.{firstRow}
 use Rattle.geometry.specs.Labels.{Sign, plus, opposite, Label, on, flip, Fits, at-root, at-number, at-successor, at-function, at-pair, at-iterator, at-left-counter, at-right-counter, at-transfer, Plain}
-use Rattle.homecoming.proofs.Leaves.{Leads, Asks, twice-opposite, no-question}
+use Rattle.homecoming.proofs.Letters.{Leads, Asks, twice-opposite, no-question}
 
 abbrev pub isKind : Kind → Option Kind → Bool
 isKind κ None = false
@@ -108,7 +108,7 @@ pub record Crosses (κ : Kind) (p : Port) (s : List Letter) (o : Port × List Le
   pub back : (v : ℕ) (d : List DataCell) (a : ℕ) → Acts κ (o .0) v (stacked (o .1) (dat.Number a ∷ deeper (Some κ) d)) p (stacked s (dat.Number (raised (Some κ) a) ∷ d))
 
 -- the question leaves by a port that the node has, as a question of the wire there
-pub record Leaves (κ : Kind) (a b c : Label) (p : Port) (s : List Letter) (o : Port × List Letter) : Type 0 where
+pub record Passed (κ : Kind) (a b c : Label) (p : Port) (s : List Letter) (o : Port × List Letter) : Type 0 where
   pub owned : offset (o .0) < arity κ
   pub asks : Asks (flip (among a b c (o .0))) (o .1)
   pub crosses : Crosses κ p s o
@@ -144,7 +144,7 @@ module _ (x : Sign) (A : Ty) (s : List Letter) where
   arrives b e h = subst (λ b. Asks b s) e h
 
 -- a question passes every node but a number
-pub passes : (κ : Kind) (a b c : Label) → Fits κ a b c → Plain κ → isKind Number (Some κ) ≡ false → (p : Port) → offset p < arity κ → (s : List Letter) → Asks (among a b c p) s → Leaves κ a b c p s (across (Some κ) p s)
+pub passes : (κ : Kind) (a b c : Label) → Fits κ a b c → Plain κ → isKind Number (Some κ) ≡ false → (p : Port) → offset p < arity κ → (s : List Letter) → Asks (among a b c p) s → Passed κ a b c p s (across (Some κ) p s)
 passes Root a b c at-root w e First h s q = absurd (no-question s q)
 passes Root a b c at-root w e Second h s q = absurd (omega arith)
 passes Root a b c at-root w e Third h s q = absurd (omega arith)

@@ -17,8 +17,8 @@ use Rattle.cells.specs.Sound.{Below, Has}
 use Rattle.token.specs.declared.memory.Letter.{Letter}
 use Rattle.geometry.specs.Labels.{Label, flip, Fits, at-root, networkWeight, successorNodes}
 use Rattle.homecoming.specs.Home.{Network}
-use Rattle.homecoming.proofs.Leaves.{Asks}
-use Rattle.homecoming.proofs.Nodes.{isKind, is-kind, across, across-twice, among, Crosses, Leaves, passes, not-root, at-successor-node}
+use Rattle.homecoming.proofs.Letters.{Asks}
+use Rattle.homecoming.proofs.Nodes.{isKind, is-kind, across, across-twice, among, Crosses, Passed, passes, not-root, at-successor-node}
 use Rattle.homecoming.proofs.Pigeonhole.{In, count, count-all, few-in, Least, least}
 use Rattle.token.proofs.Ports.{node-of, rest-of, place-of, offset-of, port-of}
 use Rattle.homecoming.proofs.Inside.{inside-low, inside-is}
@@ -85,21 +85,21 @@ module _ (ns : List Node) (label : ℕ → Label) (g : Network ns label) where
   pub at : (x : Position) → Question ns label x → (κ : Kind) → kindAt ns (x .0) ≡ Some κ → At κ x
   at x q κ e =
       let p = x .0 in
-      record
-      { low = inside-low ns p (q .0 .lies)
-      ; fits = g .labelled .fits (p / 3) κ e
-      ; owned = subst (λ i. i < arity κ) (sym (offset-of p)) (subst (λ o. Below (p % 3) o) e (q .0 .owned))
-      ; asks = subst (λ a. Asks a (x .1)) (sym (among-label label (p / 3) (placeOf p) ∙ ap label (port-of p))) (q .1)
+      record {
+        low = inside-low ns p (q .0 .lies);
+        fits = g .labelled .fits (p / 3) κ e;
+        owned = subst (λ i. i < arity κ) (sym (offset-of p)) (subst (λ o. Below (p % 3) o) e (q .0 .owned));
+        asks = subst (λ a. Asks a (x .1)) (sym (among-label label (p / 3) (placeOf p) ∙ ap label (port-of p))) (q .1);
       }
 
   has-port : (k : ℕ) (κ : Kind) → k < length ns → nodeAt ns k .kind ≡ Some κ → (q : Port) → offset q < arity κ → Has ns (portAt k q)
   has-port k κ h e q o =
       let few = g .numbered in
       let node = node-of k q in
-      record
-      { lies = inside-is ns (portAt k q) (omega arith) (omega arith)
-      ; owned = subst (λ i. Below i (nodeAt ns (portAt k q / 3) .kind)) (sym (rest-of k q))
-            (subst (λ j. Below (offset q) (nodeAt ns j .kind)) (sym node) (subst (λ o. Below (offset q) o) (sym e) o))
+      record {
+        lies = inside-is ns (portAt k q) (omega arith) (omega arith);
+        owned = subst (λ i. Below i (nodeAt ns (portAt k q / 3) .kind)) (sym (rest-of k q))
+            (subst (λ j. Below (offset q) (nodeAt ns j .kind)) (sym node) (subst (λ o. Below (offset q) o) (sym e) o));
       }
 
   -- a question that passes the node leaves it as a question
@@ -118,16 +118,16 @@ module _ (ns : List Node) (label : ℕ → Label) (g : Network ns label) where
       let κ = found .0 in
       let is = found .1 in
       let a = at x q κ is in
-      let l : Leaves κ (label (3 * k)) (label (3 * k + 1)) (label (3 * k + 2)) (placeOf p) (x .1) (across (kindAt ns p) (placeOf p) (x .1))
-            = subst (λ o. Leaves κ (label (3 * k)) (label (3 * k + 1)) (label (3 * k + 2)) (placeOf p) (x .1) (across o (placeOf p) (x .1))) (sym is)
-                (passes κ _ _ _ (a .fits) (g .plain k κ is) (subst (λ o. isKind Number o ≡ false) is e) (placeOf p) (a .owned) (x .1) (a .asks)) in
+      let l : Passed κ (label (3 * k)) (label (3 * k + 1)) (label (3 * k + 2)) (placeOf p) (x .1) (across (kindAt ns p) (placeOf p) (x .1))
+      = subst (λ o. Passed κ (label (3 * k)) (label (3 * k + 1)) (label (3 * k + 2)) (placeOf p) (x .1) (across o (placeOf p) (x .1))) (sym is)
+      (passes κ _ _ _ (a .fits) (g .plain k κ is) (subst (λ o. isKind Number o ≡ false) is e) (placeOf p) (a .owned) (x .1) (a .asks)) in
       let exit = across (kindAt ns p) (placeOf p) (x .1) .0 in
-      record
-      { has = has-port k κ (a .low) is exit (l .owned)
-      ; asks = subst (λ b. Asks (flip b) (over ns x .1)) (among-label label k exit) (l .asks)
-      ; kind = κ
-      ; is = is
-      ; crosses = l .crosses
+      record {
+        has = has-port k κ (a .low) is exit (l .owned);
+        asks = subst (λ b. Asks (flip b) (over ns x .1)) (among-label label k exit) (l .asks);
+        kind = κ;
+        is = is;
+        crosses = l .crosses;
       }
 
   onward-asks : (x : Position) → Question ns label x → Passing x → Question ns label (onward ns x)
@@ -187,8 +187,8 @@ module _ (ns : List Node) (label : ℕ → Label) (g : Network ns label) where
   stops going =
       let w = networkWeight label ns in
       let few = few-in (λ _. true) (suc w) (questions ns label) (orbit ns)
-            (λ i h _. question-in ns label (g .sound) (g .labelled) (orbit ns i) (orbit-asks w going i (omega arith)))
-            (λ i k h b _ _ e. apart w going i k h (omega arith) e) in
+      (λ i h _. question-in ns label (g .sound) (g .labelled) (orbit ns i) (orbit-asks w going i (omega arith)))
+      (λ i k h b _ _ e. apart w going i k h (omega arith) e) in
       let len = questions-length ns label in
       let all = count-all (suc w) in
       omega arith
@@ -210,11 +210,11 @@ module _ (ns : List Node) (label : ℕ → Label) (g : Network ns label) where
   pub few-successors : (m : ℕ) → Going m → (i : ℕ) → i ≤ suc m → count passesSuccessor i ≤ successorNodes ns
   few-successors m going i h =
       let few = few-in passesSuccessor i (successorList ns) (orbit ns)
-            (λ j b e.
-                let x = orbit ns j in
-                let q = orbit-asks m going j (omega arith) in
-                let is = is-kind Successor (kindAt ns (x .0)) e in
-                subst (λ y. In (successorList ns) y) (at-successor-is x q is) (successor-in ns (x .0 / 3) (inside-low ns (x .0) (q .0 .lies)) is))
-            (λ j k b c _ _ e. apart m going j k b (omega arith) e) in
+      (λ j b e.
+      let x = orbit ns j in
+      let q = orbit-asks m going j (omega arith) in
+      let is = is-kind Successor (kindAt ns (x .0)) e in
+      subst (λ y. In (successorList ns) y) (at-successor-is x q is) (successor-in ns (x .0 / 3) (inside-low ns (x .0) (q .0 .lies)) is))
+      (λ j k b c _ _ e. apart m going j k b (omega arith) e) in
       let len = successorList-length ns in
       omega arith

@@ -48,11 +48,11 @@ more b n ih true e zero f low apart = let h : f n < 0 = low n (omega arith) e in
 more b n ih true e (suc w) f low apart =
     let last : f n < suc w = low n (omega arith) e in
     let fact : (i : ℕ) → i < n → b i ≡ true → ((f i < f n) × (closed (f n) (f i) ≡ f i)) ⊎ ((f n < f i) × (suc (closed (f n) (f i)) ≡ f i))
-          = λ i h t. closed-fact (f n) (f i) (apart i n h (omega arith) t e) in
+    = λ i h t. closed-fact (f n) (f i) (apart i n h (omega arith) t e) in
     let rest : count b n ≤ w
-          = ih w (λ i. closed (f n) (f i))
-            (λ i h t. let p : f i < suc w = low i (omega arith) t in let q = fact i h t in omega arith)
-            (λ i k h g t u z. let p = fact i (omega arith) t in let q = fact k g u in apart i k h (omega arith) t u (omega arith)) in
+    = ih w (λ i. closed (f n) (f i))
+    (λ i h t. let p : f i < suc w = low i (omega arith) t in let q = fact i h t in omega arith)
+    (λ i k h g t u z. let p = fact i (omega arith) t in let q = fact k g u in apart i k h (omega arith) t u (omega arith)) in
     omega arith
 
 few-below : (b : ℕ → Bool) (n w : ℕ) (f : ℕ → ℕ) → Low b n w f → Apart b n f → count b n ≤ w
@@ -117,8 +117,8 @@ module _ {A : Type 0} where
   pub few-in : (b : ℕ → Bool) (n : ℕ) (xs : List A) (f : ℕ → A) → ((i : ℕ) → i < n → b i ≡ true → In xs (f i)) → Apart b n f → count b n ≤ length xs
   few-in b n xs f listed apart =
       let at : (i : ℕ) → (k : ℕ) × (i < n → b i ≡ true → At xs k (f i))
-            = λ i. place b n xs f listed i (decLt i n) (b i) refl in
+      = λ i. place b n xs f listed i (decLt i n) (b i) refl in
       few-below b n (length xs) (λ i. at i .0)
       (λ i h t. at-below xs (at i .0) (f i) (at i .1 h t))
       (λ i k h g t u e. apart i k h g t u
-          (at-same xs (at i .0) (f i) (f k) (at i .1 (omega arith) t) (subst (λ c. At xs c (f k)) (sym e) (at k .1 g u))))
+      (at-same xs (at i .0) (f i) (f k) (at i .1 (omega arith) t) (subst (λ c. At xs c (f k)) (sym e) (at k .1 g u))))

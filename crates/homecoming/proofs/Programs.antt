@@ -13,7 +13,7 @@ use Rattle.geometry.proofs.Weights.{weight-kept, successors-counted}
 use Rattle.geometry.proofs.Values.{plain, numbers-kept}
 use Rattle.token.specs.State.{Rooms}
 use Rattle.homecoming.specs.Home.{Network, Suffices, Home}
-use Rattle.homecoming.specs.Programs.{Program, Needs, Programs-come-home}
+use Rattle.homecoming.specs.Programs.{Program, Enough, Programs-come-home}
 use Rattle.homecoming.proofs.Way.{comes-home}
 
 -- a program's network is such as the token comes home from
@@ -22,15 +22,15 @@ networked t d p =
     let size = network-length t in
     let none = p .plain in
     let fits = p .few in
-    record
-    { numbered = omega arith
-    ; sound = sound t d (omega arith) (omega arith)
-    ; labelled = labelled t d
-    ; plain = plain t none
-    ; small = numbers-kept t 1000000000 (p .numbers)
+    record {
+      numbered = omega arith;
+      sound = sound t d (omega arith) (omega arith);
+      labelled = labelled t d;
+      plain = plain t none;
+      small = numbers-kept t 1000000000 (p .numbers);
     }
 
-pub sufficed : (t : Term) (d : Typed [] t N) (rs : Rooms) → Needs d rs → Suffices (network t) (label d) rs
+pub sufficed : (t : Term) (d : Typed [] t N) (rs : Rooms) → Enough d rs → Suffices (network t) (label d) rs
 sufficed t d rs m =
     let signs = successors-counted t in
     let cells = m .datas in

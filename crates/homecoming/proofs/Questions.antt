@@ -15,7 +15,7 @@ use Rattle.calculus.specs.Types.{Ty, N, _⇒_, _⊗_, naturals}
 use Rattle.token.specs.declared.memory.Letter.{Letter}
 use Rattle.token.specs.declared.memory.Letter.the-variants.{Left, Right}
 use Rattle.geometry.specs.Labels.{Sign, plus, minus, opposite, Label, on, flip, Labelled, produced, nodeWeight, weightFrom, networkWeight, successorsAt, successorNodes}
-use Rattle.homecoming.proofs.Leaves.{Leads, Asks, leads-flip}
+use Rattle.homecoming.proofs.Letters.{Leads, Asks, leads-flip}
 use Rattle.homecoming.proofs.Nodes.{isKind}
 use Rattle.homecoming.proofs.Pigeonhole.{In, in-left, in-right}
 use Rattle.homecoming.proofs.Inside.{inside-low}
@@ -42,31 +42,31 @@ collect-in f k (n ∷ ns) (suc i) a h m =
     in-right (f k n) _ a (collect-in f (suc k) ns i a (omega arith) (subst (λ j. In (f j (nodeAt ns i)) a) e m))
 
 -- what f makes of the letters to each N of a type, and of that N's sign
-abbrev leaves : Ty → Sign → (Sign → List Letter → Position) → List Position
-leaves N x f = f x [] ∷ []
-leaves (A ⇒ B) x f = leaves B x (λ y s. f y (Left ∷ s)) ++ leaves A (opposite x) (λ y s. f y (Right ∷ s))
-leaves (A ⊗ B) x f = leaves A x (λ y s. f y (Left ∷ s)) ++ leaves B x (λ y s. f y (Right ∷ s))
+abbrev paths : Ty → Sign → (Sign → List Letter → Position) → List Position
+paths N x f = f x [] ∷ []
+paths (A ⇒ B) x f = paths B x (λ y s. f y (Left ∷ s)) ++ paths A (opposite x) (λ y s. f y (Right ∷ s))
+paths (A ⊗ B) x f = paths A x (λ y s. f y (Left ∷ s)) ++ paths B x (λ y s. f y (Right ∷ s))
 
-leaves-length : (A : Ty) (x : Sign) (f : Sign → List Letter → Position) → length (leaves A x f) ≡ naturals A
-leaves-length N x f = refl
-leaves-length (A ⇒ B) x f =
-    let p = leaves-length B x (λ y s. f y (Left ∷ s)) in
-    let q = leaves-length A (opposite x) (λ y s. f y (Right ∷ s)) in
+paths-length : (A : Ty) (x : Sign) (f : Sign → List Letter → Position) → length (paths A x f) ≡ naturals A
+paths-length N x f = refl
+paths-length (A ⇒ B) x f =
+    let p = paths-length B x (λ y s. f y (Left ∷ s)) in
+    let q = paths-length A (opposite x) (λ y s. f y (Right ∷ s)) in
     simp length-append (omega arith)
-leaves-length (A ⊗ B) x f =
-    let p = leaves-length A x (λ y s. f y (Left ∷ s)) in
-    let q = leaves-length B x (λ y s. f y (Right ∷ s)) in
+paths-length (A ⊗ B) x f =
+    let p = paths-length A x (λ y s. f y (Left ∷ s)) in
+    let q = paths-length B x (λ y s. f y (Right ∷ s)) in
     simp length-append (omega arith)
 
-leaves-in : (A : Ty) (x y : Sign) (s : List Letter) (f : Sign → List Letter → Position) → Leads A x s y → In (leaves A x f) (f y s)
-leaves-in N x y [] f h = (0, ap (λ z. f z []) h)
-leaves-in N x y (c ∷ s) f h = absurd h
-leaves-in (A ⇒ B) x y [] f h = absurd h
-leaves-in (A ⇒ B) x y (Left ∷ s) f h = in-left _ _ _ (leaves-in B x y s (λ z u. f z (Left ∷ u)) h)
-leaves-in (A ⇒ B) x y (Right ∷ s) f h = in-right (leaves B x (λ z u. f z (Left ∷ u))) _ _ (leaves-in A (opposite x) y s (λ z u. f z (Right ∷ u)) h)
-leaves-in (A ⊗ B) x y [] f h = absurd h
-leaves-in (A ⊗ B) x y (Left ∷ s) f h = in-left _ _ _ (leaves-in A x y s (λ z u. f z (Left ∷ u)) h)
-leaves-in (A ⊗ B) x y (Right ∷ s) f h = in-right (leaves A x (λ z u. f z (Left ∷ u))) _ _ (leaves-in B x y s (λ z u. f z (Right ∷ u)) h)
+paths-in : (A : Ty) (x y : Sign) (s : List Letter) (f : Sign → List Letter → Position) → Leads A x s y → In (paths A x f) (f y s)
+paths-in N x y [] f h = (0, ap (λ z. f z []) h)
+paths-in N x y (c ∷ s) f h = absurd h
+paths-in (A ⇒ B) x y [] f h = absurd h
+paths-in (A ⇒ B) x y (Left ∷ s) f h = in-left _ _ _ (paths-in B x y s (λ z u. f z (Left ∷ u)) h)
+paths-in (A ⇒ B) x y (Right ∷ s) f h = in-right (paths B x (λ z u. f z (Left ∷ u))) _ _ (paths-in A (opposite x) y s (λ z u. f z (Right ∷ u)) h)
+paths-in (A ⊗ B) x y [] f h = absurd h
+paths-in (A ⊗ B) x y (Left ∷ s) f h = in-left _ _ _ (paths-in A x y s (λ z u. f z (Left ∷ u)) h)
+paths-in (A ⊗ B) x y (Right ∷ s) f h = in-right (paths A x (λ z u. f z (Left ∷ u))) _ _ (paths-in B x y s (λ z u. f z (Right ∷ u)) h)
 
 -- the end of the wire of the plus port p to which a question for an N of this sign comes
 abbrev asked : List Node → ℕ → Sign → List Letter → Position
@@ -75,11 +75,11 @@ asked ns p minus s = (link ns p, s)
 
 -- the questions of the wire of which p is the producer's end
 abbrev wire : List Node → ℕ → Label → List Position
-wire ns p (on plus A) = leaves A plus (asked ns p)
+wire ns p (on plus A) = paths A plus (asked ns p)
 wire ns p (on minus A) = []
 
 wire-length : (ns : List Node) (p : ℕ) (a : Label) → length (wire ns p a) ≡ produced a
-wire-length ns p (on plus A) = leaves-length A plus (asked ns p)
+wire-length ns p (on plus A) = paths-length A plus (asked ns p)
 wire-length ns p (on minus A) = refl
 
 abbrev ports : ℕ → List Position → List Position → List Position → List Position
@@ -124,7 +124,7 @@ module _ (all : List Node) (label : ℕ → Label) where
   atNode-length k [] = refl
   atNode-length k (n ∷ ns) =
       let h = owned-length (n .kind) (label (3 * k)) (label (3 * k + 1)) (label (3 * k + 2)) (at (3 * k)) (at (3 * k + 1)) (at (3 * k + 2))
-            (wire-length all (3 * k) (label (3 * k))) (wire-length all (3 * k + 1) (label (3 * k + 1))) (wire-length all (3 * k + 2) (label (3 * k + 2))) in
+      (wire-length all (3 * k) (label (3 * k))) (wire-length all (3 * k + 1) (label (3 * k + 1))) (wire-length all (3 * k + 2) (label (3 * k + 2))) in
       let g = atNode-length (suc k) ns in
       length-append (atNode k n) (collect atNode (suc k) ns) ∙ omega arith
 
@@ -162,19 +162,19 @@ module _ (ns : List Node) (label : ℕ → Label) where
       let z : p / 3 ≡ 0 + p / 3 = omega arith in
       collect-in (atNode ns label) 0 ns (p / 3) x (inside-low ns p (h .lies))
       (subst (λ k. In (atNode ns label k (nodeAt ns (p / 3))) x) z
-          (owned-in ns label (nodeAt ns (p / 3) .kind) (p % 3) (h .owned) (p / 3) x (subst (λ q. In (wire ns q (label q)) x) e u)))
+      (owned-in ns label (nodeAt ns (p / 3) .kind) (p % 3) (h .owned) (p / 3) x (subst (λ q. In (wire ns q (label q)) x) e u)))
 
   module _ (sound : Sound ns) (labelled : Labelled ns label) where
     listed : (p : ℕ) (s : List Letter) → Has ns p → (a : Label) → label p ≡ a → Asks a s → In (questions ns label) (p, s)
     listed p s has (on plus A) e h =
-        wire-in p has (p, s) (subst (λ a. In (wire ns p a) (p, s)) (sym e) (leaves-in A plus plus s (asked ns p) h))
+        wire-in p has (p, s) (subst (λ a. In (wire ns p a) (p, s)) (sym e) (paths-in A plus plus s (asked ns p) h))
     listed p s has (on minus A) e h =
         let m = sound .linked p has in
         let q = link ns p in
         let there : label q ≡ on plus A = labelled .ends p has ∙ ap flip e in
         wire-in q (m .there) (p, s)
         (subst (λ z. In (wire ns q (label q)) (z, s)) (m .back)
-            (subst (λ a. In (wire ns q a) (link ns q, s)) (sym there) (leaves-in A plus minus s (asked ns q) (leads-flip A minus plus s h))))
+        (subst (λ a. In (wire ns q a) (link ns q, s)) (sym there) (paths-in A plus minus s (asked ns q) (leads-flip A minus plus s h))))
 
     -- each question is in the list
     pub question-in : (x : Position) → Question ns label x → In (questions ns label) x
@@ -216,7 +216,7 @@ successor-in ns k h e =
     let z : k ≡ 0 + k = omega arith in
     collect-in (λ k n. atSuccessor (n .kind) (3 * k + 1)) 0 ns k (3 * k + 1, []) h
     (subst (λ j. In (atSuccessor (nodeAt ns k .kind) (3 * j + 1)) (3 * k + 1, [])) z
-        (subst (λ o. In (atSuccessor o (3 * k + 1)) (3 * k + 1, [])) (sym e) (0, refl)))
+    (subst (λ o. In (atSuccessor o (3 * k + 1)) (3 * k + 1, [])) (sym e) (0, refl)))
 
 one-at-most : (b : Bool) (x : Position) → length (cond b (x ∷ []) []) ≤ 1
 one-at-most true x = omega arith

@@ -73,12 +73,12 @@ step ns rs f p k q o κ s t node place away came is acts h g goes =
     let a : Acts κ (placeOf p) v s o t = subst₂ (λ j r. Acts κ r (nodeAt ns j .value) s o t) (sym node) (sym place) acts in
     let e : exitTo here (a .row) ≡ portAt k o = ap₂ portAt node (a .exit) in
     steps here (a .row)
-    (record
-    { out = grind (arith, tells)
-    ; came = came
-    ; row = to-row here (a .row) (record { node = grind (arith, tells); kind = κ; is = ap (λ j. nodeAt ns j .kind) node ∙ is; found = a .found })
-    ; room = and-true _ _ (h .room v) (subst (λ u. within rs v u ≡ true) (sym (a .change)) (g .room v))
-    ; fit = and-true _ _ (h .low) (subst (λ u. small u ≡ true) (sym (a .change)) (g .low))
-    ; goes = subst (λ p. linked ns p (link ns p) ≡ true) (sym e) goes
+    (record {
+      out = grind (arith, tells);
+      came = came;
+      row = to-row here (a .row) (record { node = grind (arith, tells); kind = κ; is = ap (λ j. nodeAt ns j .kind) node ∙ is; found = a .found });
+      room = and-true _ _ (h .room v) (subst (λ u. within rs v u ≡ true) (sym (a .change)) (g .room v));
+      fit = and-true _ _ (h .low) (subst (λ u. small u ≡ true) (sym (a .change)) (g .low));
+      goes = subst (λ p. linked ns p (link ns p) ≡ true) (sym e) goes;
     })
     ∙ ap₂ (λ p u. to (stands ns rs p (link ns p) u)) e (a .change)

@@ -18,7 +18,7 @@ use Rattle.token.specs.declared.memory.DataCell.the-variants as dat
 use Rattle.token.specs.State.{Rooms, opened, entrance}
 use Rattle.token.specs.Next.{next}
 use Rattle.homecoming.specs.Home.{Network, Suffices, Home}
-use Rattle.homecoming.proofs.Leaves.{asks-height}
+use Rattle.homecoming.proofs.Letters.{asks-height}
 use Rattle.homecoming.proofs.Nodes.{isKind, is-kind, stacked, deeper, raised}
 use Rattle.homecoming.proofs.Pigeonhole.{bump, count}
 use Rattle.homecoming.proofs.Questions.{Question, few-successor-nodes}
@@ -77,10 +77,10 @@ module _ (ns : List Node) (label : ℕ → Label) (rs : Rooms) (g : Network ns l
         let v = nodeAt ns (x .0 / 3) .value in
         let b : v ≤ 1000000000 = g .small (x .0 / 3) (is-kind Number (kindAt ns (x .0)) n) in
         let c = few-successors ns label g m going i (omega arith) in
-        record
-        { number = v
-        ; low = omega arith
-        ; way = last-step next 0 _ _ _ (go-none next _) (turns ns label rs g x (orbit-asks ns label g m going i (omega arith)) n d (room i (omega arith) d e) (omega arith))
+        record {
+          number = v;
+          low = omega arith;
+          way = last-step next 0 _ _ _ (go-none next _) (turns ns label rs g x (orbit-asks ns label g m going i (omega arith)) n d (room i (omega arith) d e) (omega arith));
         }
     back met (suc k) i h d e =
         let x = orbit ns i in
@@ -96,11 +96,11 @@ module _ (ns : List Node) (label : ℕ → Label) (rs : Rooms) (g : Network ns l
         let w = raised-balance (isKind Successor o) a d in
         let few = few-successor-nodes ns in
         let size = g .numbered in
-        record
-        { number = raised o a
-        ; low = omega arith
-        ; way = first-step next (suc (suc (double k))) _ _ (passes-out ns label rs g x q f d r t)
-            ∙ last-step next (suc (double k)) _ _ _ (b .way) (passes-back ns label rs g x q f d r t a (omega arith) (omega arith))
+        record {
+          number = raised o a;
+          low = omega arith;
+          way = first-step next (suc (suc (double k))) _ _ (passes-out ns label rs g x q f d r t)
+              ∙ last-step next (suc (double k)) _ _ _ (b .way) (passes-back ns label rs g x q f d r t a (omega arith) (omega arith));
         }
 
   -- the opening is the token with the question at the first position
@@ -121,14 +121,14 @@ module _ (ns : List Node) (label : ℕ → Label) (rs : Rooms) (g : Network ns l
       let twice = double-is j in
       let below = met .below in
       let cells = memory .datas in
-      record
-      { number = b .number
-      ; steps = suc (double j)
-      ; distance = record
-          { last = stands ns rs (link ns 0) 0 (stacked [] (dat.Number (b .number) ∷ []))
-          ; way = ap (go next (suc (double j))) (opening (omega arith)) ∙ b .way ∙ ap (λ p. to (stands ns rs (link ns 0) p (stacked [] (dat.Number (b .number) ∷ [])))) (m .back)
-          ; number = refl
-          }
-      ; odd = omega arith
-      ; soon = omega arith
+      record {
+        number = b .number;
+        steps = suc (double j);
+        distance = record {
+          last = stands ns rs (link ns 0) 0 (stacked [] (dat.Number (b .number) ∷ []));
+          way = ap (go next (suc (double j))) (opening (omega arith)) ∙ b .way ∙ ap (λ p. to (stands ns rs (link ns 0) p (stacked [] (dat.Number (b .number) ∷ [])))) (m .back);
+          number = refl;
+        };
+        odd = omega arith;
+        soon = omega arith;
       }

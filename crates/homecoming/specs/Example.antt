@@ -14,7 +14,7 @@ use Rattle.token.specs.State.{Rooms, opened}
 use Rattle.token.specs.Next.{next}
 use Rattle.token.specs.Distance.{ToNumber}
 use Rattle.homecoming.specs.Home.{Network, Suffices}
-use Rattle.homecoming.specs.Programs.{Program, Needs}
+use Rattle.homecoming.specs.Programs.{Program, Enough}
 
 abbrev pub derivation : Typed [] applied N
 derivation = ty-app (ty-lam (ty-succ ty-var) (here none-left)) ty-num
@@ -25,7 +25,7 @@ rooms m d = record { letters = m; iters = 0; datas = d; shelves = 0 }
 
 pub record Met : Type 0 where
   pub program : Program applied
-  pub needs : Needs derivation (rooms 1 2)
+  pub enough : Enough derivation (rooms 1 2)
   pub typed : Network (network applied) (label derivation)
   pub suffices : Suffices (network applied) (label derivation) (rooms 1 2)
   -- 4 after 11 steps, one less than twice the weight 6

@@ -18,10 +18,10 @@ pub record Program (t : Term) : Type 0 where
   pub few : 3 * (1 + nodes t) ≤ absent
 
 -- a letter cell for each unit of the greatest type height among the sub-terms, and a data cell more than there are S signs
-pub record Needs {t : Term} (d : Typed [] t N) (rs : Rooms) : Type 0 where
+pub record Enough {t : Term} (d : Typed [] t N) (rs : Rooms) : Type 0 where
   pub letters : tallest d ≤ rs .letters
   pub datas : 1 + successors t ≤ rs .datas
 
 -- every such program comes home with a number, after an odd number of steps, at most one less than twice its weight
 abbrev pub Programs-come-home : Type 0
-Programs-come-home = (t : Term) (d : Typed [] t N) (rs : Rooms) → Program t → Needs d rs → Home (network t) rs (weight d)
+Programs-come-home = (t : Term) (d : Typed [] t N) (rs : Rooms) → Program t → Enough d rs → Home (network t) rs (weight d)

@@ -7,18 +7,15 @@ ghost use Rattle.homecoming.specs.Example.{Met};
 /// after an odd number of steps, at most one less than twice the network's weight.
 pub fn comes_home()
     ensures { λ _. ⌜ Comes-home ⌝ }
-{
-}
+{}
 
 /// So does the token of every closed program of type N without iterator, within the bound that the program's weight sets.
 pub fn programs_come_home()
     ensures { λ _. ⌜ Programs-come-home ⌝ }
-{
-}
+{}
 
 /// What both suppose can be met: `(\x:N.S x 3)` comes home with 4 in 11 steps, its weight being 6,
 /// in one letter cell and two data cells, and with one cell less it does not.
 pub fn premises_are_met()
     ensures { λ _. ⌜ Met ⌝ }
-{
-}
+{}

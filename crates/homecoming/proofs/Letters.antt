@@ -36,11 +36,6 @@ pub no-question : (s : List Letter) → Asks (on minus N) s → ⊥
 no-question [] h = minus-plus h
 no-question (c ∷ s) h = h
 
--- a question at the producer's end of a wire of type N has no letters
-pub no-letters : (s : List Letter) → Asks (on plus N) s → [] ≡ s
-no-letters [] h = refl
-no-letters (c ∷ s) h = absurd h
-
 pub leads-flip : (A : Ty) (x y : Sign) (s : List Letter) → Leads A x s y → Leads A (opposite x) s (opposite y)
 leads-flip N x y [] h = ap opposite h
 leads-flip N x y (c ∷ s) h = h
