@@ -1,9 +1,9 @@
 -- Counting: each port that a node has, and the one that the root goes to, is the end of one wire; so is the port at which a free variable starts.
-use mathlib.Core.Path.{_≡_, refl, sym, ap, subst, _∙_}
+use mathlib.Core.Path.{_≡_, refl, sym, ap, _∙_}
 use mathlib.Core.List.{List, [], _∷_, _++_}
 use mathlib.Core.Bool.{Bool, true, false, cond}
 use mathlib.Core.Logic.{_⊎_, inl, inr}
-use Prim.Native.Nat.{ℕ, zero, suc, _+_, _*_}
+use Prim.Native.Nat.{ℕ, suc, _+_}
 use native.Mathlib.Omega.{arith}
 use lib.Dec.{eqb}
 use lib.ListN.{length, length-append}
@@ -28,6 +28,7 @@ hit-tells p q = go (eqb p q) refl
   where
     value : Bool → ℕ
     value b = cond b 1 0
+
     go : (b : Bool) → eqb p q ≡ b → ((p ≡ q) × (hit p q ≡ 1)) ⊎ ((p ≡ q → ⊥) × (hit p q ≡ 0))
     go true e = inl (eqb-true p q e, ap value e)
     go false e = inr (eqb-false p q e, ap value e)
@@ -113,6 +114,10 @@ part p i j {Δ} {u} d o s r e h =
     let b : starts p e (names Δ) ≡ starts p e (free u) = rw z refl in
     omega (arith, h, a, b, crossings-ends p i (free u) (s + nodes u) e, ends-append p (crossings (free u) (s + nodes u) e) (wires u s r (entered (free u) (s + nodes u) e)), ports-append p s (s + nodes u) (made u j) (transfers i (free u)) (omega (arith, made-length u j)))
 
+-- two parts, the second with the nodes after those of the first
+both : (p k i j a b : ℕ) (t u : Term) (e f : Env) → ends p (wires t k a e ++ wires u (k + nodes t) b f) + (ports p k (made t i) + ports p (k + nodes t) (made u j)) ≡ ends p (wires t k a e) + ends p (wires u (k + nodes t) b f) + ports p k (made t i ++ made u j)
+both p k i j a b t u e f = omega (arith, ends-append p (wires t k a e) (wires u (k + nodes t) b f), ports-append p k (k + nodes t) (made t i) (made u j) (omega (arith, made-length t i)))
+
 -- each end is counted: the root's port, the ports that the nodes have, and where the free variables start
 pub counted : (p : ℕ) {Γ : Ctx} {t : Term} {A : Ty} (d : Typed Γ t A) → Once Γ → (i k r : ℕ) (e : Env) → ends p (wires t k r e) ≡ hit p r + (ports p k (made t i) + starts p e (names Γ))
 counted p ty-var o i k r e = omega arith
@@ -120,13 +125,13 @@ counted p ty-num o i k r e = omega arith
 counted p (ty-succ d) o i k r e = omega (arith, counted p d o i (suc k) (l1 k) e)
 counted p (ty-lam {x = x} d m) o i k r e = omega (arith, counted p d (once-pick m o) i (suc k) (l2 k) (put e x (l3 k)), starts-pick p e (l3 k) m)
 counted p (ty-app {t = t} {u = u} {Γ = Γ} {Δ = Δ} d f) o i k r e =
-    omega (arith, counted p d (once-left Γ Δ o) i (suc k) (l1 k) e, counted p f (once-right Γ Δ o) (i + iterators t) (suc k + nodes t) (l3 k) e, ends-append p (wires t (suc k) (l1 k) e) (wires u (suc k + nodes t) (l3 k) e), ports-append p (suc k) (suc k + nodes t) (made t i) (made u (i + iterators t)) (omega (arith, made-length t i)), starts-both p e Γ Δ)
+    omega (arith, counted p d (once-left Γ Δ o) i (suc k) (l1 k) e, counted p f (once-right Γ Δ o) (i + iterators t) (suc k + nodes t) (l3 k) e, both p (suc k) i (i + iterators t) (l1 k) (l3 k) t u e e, starts-both p e Γ Δ)
 counted p (ty-pair {t = t} {u = u} {Γ = Γ} {Δ = Δ} d f) o i k r e =
-    omega (arith, counted p d (once-left Γ Δ o) i (suc k) (l2 k) e, counted p f (once-right Γ Δ o) (i + iterators t) (suc k + nodes t) (l3 k) e, ends-append p (wires t (suc k) (l2 k) e) (wires u (suc k + nodes t) (l3 k) e), ports-append p (suc k) (suc k + nodes t) (made t i) (made u (i + iterators t)) (omega (arith, made-length t i)), starts-both p e Γ Δ)
+    omega (arith, counted p d (once-left Γ Δ o) i (suc k) (l2 k) e, counted p f (once-right Γ Δ o) (i + iterators t) (suc k + nodes t) (l3 k) e, both p (suc k) i (i + iterators t) (l2 k) (l3 k) t u e e, starts-both p e Γ Δ)
 counted p (ty-split {x = x} {y = y} {t = t} {u = u} {Γ = Γ} {Δ₂ = Δ} d f m n) o i k r e =
     let e₁ = put e x (l2 k) in
     let e₂ = put e₁ y (l3 k) in
-    omega (arith, counted p d (once-left Γ Δ o) i (suc k) (l1 k) e, counted p f (once-pick m (once-pick n (once-right Γ Δ o))) (i + iterators t) (suc k + nodes t) r e₂, ends-append p (wires t (suc k) (l1 k) e) (wires u (suc k + nodes t) r e₂), ports-append p (suc k) (suc k + nodes t) (made t i) (made u (i + iterators t)) (omega (arith, made-length t i)), starts-both p e Γ Δ, starts-pick p e₁ (l3 k) m, starts-pick p e (l2 k) n)
+    omega (arith, counted p d (once-left Γ Δ o) i (suc k) (l1 k) e, counted p f (once-pick m (once-pick n (once-right Γ Δ o))) (i + iterators t) (suc k + nodes t) r e₂, both p (suc k) i (i + iterators t) (l1 k) r t u e e₂, starts-both p e Γ Δ, starts-pick p e₁ (l3 k) m, starts-pick p e (l2 k) n)
 counted p (ty-iter {t = t} {u = u} {v = v} {Γ = Γ} {Δ = Δ} {Θ = Θ} d f g) o i k r e =
     let o′ = once-right Γ (Δ ++ Θ) o in
     let c = suc k in

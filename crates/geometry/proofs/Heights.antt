@@ -1,10 +1,10 @@
 -- No label's type is higher than the types of the sub-terms.
-use mathlib.Core.List.{List, [], _∷_, _++_}
-use Prim.Native.Nat.{ℕ, suc, _+_, _≤_, max}
+use mathlib.Core.List.{[], _∷_, _++_}
+use Prim.Native.Nat.{ℕ, suc, _+_, _≤_}
 use native.Mathlib.Omega.{arith}
 use Rattle.cells.specs.declared.kinds.Kind.{Kind}
-use Rattle.calculus.specs.Types.{Ty, N, _⇒_, _⊗_, height}
-use Rattle.calculus.specs.Terms.{Term, free, iterators}
+use Rattle.calculus.specs.Types.{Ty, height}
+use Rattle.calculus.specs.Terms.{Term, iterators}
 use Rattle.calculus.specs.Typing.{Ctx, Pick, here, there, Typed, ty-var, ty-num, ty-succ, ty-lam, ty-app, ty-pair, ty-split, ty-iter, tallest}
 use Rattle.geometry.specs.Labels.{typeOf}
 use Rattle.geometry.specs.Network.{made}

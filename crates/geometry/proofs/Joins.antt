@@ -1,8 +1,8 @@
 -- The wire at a port: found by the count of its ends.
-use mathlib.Core.Path.{_≡_, refl, sym}
+use mathlib.Core.Path.{_≡_, refl}
 use mathlib.Core.List.{List, [], _∷_}
 use mathlib.Core.Logic.{_⊎_, inl, inr}
-use Prim.Native.Nat.{ℕ, _+_, _≤_}
+use Prim.Native.Nat.{ℕ, _≤_}
 use native.Mathlib.Omega.{arith}
 use Rattle.geometry.specs.Network.{Wire}
 use Rattle.geometry.proofs.Ends.{hit, hit-tells, ends}

@@ -1,21 +1,19 @@
 -- The ports of a closed program's network are typed by its derivation.
-use mathlib.Core.Path.{_≡_, refl, sym, ap, subst, _∙_}
+use mathlib.Core.Path.{_≡_, refl, subst}
 use mathlib.Core.List.{List, [], _∷_}
-use Prim.Native.Nat.{ℕ, zero, suc, _+_, _*_, _/_, _%_, _<_, _≤_}
+use Prim.Native.Nat.{ℕ, zero, suc, _+_, _*_, _/_, _<_, _≤_}
 use native.Mathlib.Omega.{arith}
 use lib.ListN.{length, getD}
 use Rattle.std.specs.declared.option.Option.the-variants.{Some}
 use Rattle.cells.specs.declared.kinds.Kind.{Kind}
-use Rattle.cells.specs.declared.kinds.Kind.the-variants.{Root}
 use Rattle.cells.specs.declared.kinds.Port.{Port}
 use Rattle.cells.specs.declared.kinds.Port.the-variants.{First, Second, Third}
-use Rattle.cells.specs.Ports.{Node, nodeAt, link, placeOf}
-use Rattle.cells.specs.Sound.{Has}
+use Rattle.cells.specs.Ports.{Node, nodeAt, placeOf}
 use Rattle.calculus.specs.Types.{N, height}
 use Rattle.calculus.specs.Terms.{Term}
 use Rattle.calculus.specs.Typing.{Typed, tallest}
-use Rattle.geometry.specs.Labels.{Label, typeOf, Fits, at-root, Labelled, NoHigher}
-use Rattle.geometry.specs.Network.{Made, allMade, allWires, nowhere, l1, l2, l3, network}
+use Rattle.geometry.specs.Labels.{typeOf, Fits, at-root, Labelled, NoHigher}
+use Rattle.geometry.specs.Network.{Made, allMade, nowhere, l1, l2, l3, network}
 use Rattle.geometry.specs.Derivations.{Three, idle, slot, labelAt, allLabels, label}
 use Rattle.geometry.proofs.Owned.{owns-bound}
 use Rattle.geometry.proofs.Wired.{Bears, bears-length, placeOf-first, placeOf-second, placeOf-third}

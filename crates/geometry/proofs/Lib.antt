@@ -12,3 +12,5 @@ pub mod Heights
 pub mod Labelling
 pub mod Weights
 pub mod Values
+pub mod Local
+pub mod Memory

@@ -1,12 +1,12 @@
 -- The nodes made: how many, and what each is.
-use mathlib.Core.Path.{_≡_, refl, ap, _∙_}
+use mathlib.Core.Path.{_≡_, refl, ap}
 use mathlib.Core.List.{List, [], _∷_, _++_}
-use Prim.Native.Nat.{ℕ, zero, suc, _+_, _<_, _≤_}
+use Prim.Native.Nat.{ℕ, suc, _+_, _<_, _≤_}
 use native.Mathlib.Omega.{arith}
 use lib.ListN.{length, length-append}
 use Rattle.cells.specs.declared.kinds.Kind.{Kind}
-use Rattle.cells.specs.declared.kinds.Kind.the-variants.{Root, Number, Successor, Multiplexer, Iterator, LeftCounter, RightCounter, Transfer}
-use Rattle.calculus.specs.Terms.{Term, var, num, succ, lam, app, pair, split, iter, free, iterators, nodes, successors}
+use Rattle.cells.specs.declared.kinds.Kind.the-variants.{Number, Successor, Multiplexer, Iterator, LeftCounter, RightCounter, Transfer}
+use Rattle.calculus.specs.Terms.{Term, var, num, succ, lam, app, pair, split, iter, free, iterators, nodes}
 use Rattle.geometry.specs.Network.{Made, transfers, made}
 use Rattle.geometry.specs.Derivations.{EachNumber}
 
@@ -14,23 +14,23 @@ pub transfers-length : (i : ℕ) (xs : List ℕ) → length (transfers i xs) ≡
 transfers-length i [] = refl
 transfers-length i (x ∷ xs) = ap suc (transfers-length i xs)
 
+both-length : (l m : List Made) (a b : ℕ) → length l ≡ a → length m ≡ b → length (l ++ m) ≡ a + b
+both-length l m a b e f = omega (arith, length-append l m)
+
 -- as many nodes are made as the count of nodes says
 pub made-length : (t : Term) (i : ℕ) → length (made t i) ≡ nodes t
 made-length (var x) i = refl
 made-length (num n) i = refl
 made-length (succ t) i = ap suc (made-length t i)
 made-length (lam x T t) i = ap suc (made-length t i)
-made-length (app t u) i = omega (arith, made-length t i, made-length u (i + iterators t), length-append (made t i) (made u (i + iterators t)))
-made-length (pair t u) i = omega (arith, made-length t i, made-length u (i + iterators t), length-append (made t i) (made u (i + iterators t)))
-made-length (split x y t u) i = omega (arith, made-length t i, made-length u (i + iterators t), length-append (made t i) (made u (i + iterators t)))
+made-length (app t u) i = ap suc (both-length (made t i) (made u (i + iterators t)) _ _ (made-length t i) (made-length u (i + iterators t)))
+made-length (pair t u) i = ap suc (both-length (made t i) (made u (i + iterators t)) _ _ (made-length t i) (made-length u (i + iterators t)))
+made-length (split x y t u) i = ap suc (both-length (made t i) (made u (i + iterators t)) _ _ (made-length t i) (made-length u (i + iterators t)))
 made-length (iter t u v) i =
     let s = suc i + iterators t in
-    let ns = made t (suc i) in
-    let us = made u s in
-    let us′ = transfers i (free u) in
-    let vs = made v (s + iterators u) in
-    let vs′ = transfers i (free v) in
-    omega (arith, made-length t (suc i), made-length u s, made-length v (s + iterators u), transfers-length i (free u), transfers-length i (free v), length-append ns ((us ++ us′) ++ (vs ++ vs′)), length-append (us ++ us′) (vs ++ vs′), length-append us us′, length-append vs vs′)
+    let step = both-length (made u s) (transfers i (free u)) _ _ (made-length u s) (transfers-length i (free u)) in
+    let base = both-length (made v (s + iterators u)) (transfers i (free v)) _ _ (made-length v (s + iterators u)) (transfers-length i (free v)) in
+    omega (arith, both-length (made t (suc i)) _ _ _ (made-length t (suc i)) (both-length _ _ _ _ step base))
 
 -- P holds of each node made
 abbrev pub Each : (Kind → ℕ → Type 0) → List Made → Type 0
@@ -60,17 +60,18 @@ narrow P i n j m a b s = record {
   transfer = λ k h g. s .transfer k (omega arith) (omega arith);
 }
 
+-- two parts, the second with the iterators after those of the first
+each-two : (P : Kind → ℕ → Type 0) (t u : Term) (i : ℕ) → Suits P i (iterators t + iterators u) → (Suits P i (iterators t) → Each P (made t i)) → (Suits P (i + iterators t) (iterators u) → Each P (made u (i + iterators t))) → Each P (made t i ++ made u (i + iterators t))
+each-two P t u i s f g = Each-append P (made t i) _ (f (narrow P i _ i _ (omega arith) (omega arith) s)) (g (narrow P i _ _ _ (omega arith) (omega arith) s))
+
 pub made-each : (P : Kind → ℕ → Type 0) (t : Term) (i : ℕ) → Suits P i (iterators t) → EachNumber (P Number) t → Each P (made t i)
 made-each P (var x) i s h = tt
 made-each P (num n) i s h = (h, tt)
 made-each P (succ t) i s h = (s .successor, made-each P t i s h)
 made-each P (lam x T t) i s h = (s .multiplexer, made-each P t i s h)
-made-each P (app t u) i s h =
-    (s .multiplexer, Each-append P (made t i) _ (made-each P t i (narrow P i _ i _ (omega arith) (omega arith) s) (h .0)) (made-each P u (i + iterators t) (narrow P i _ _ _ (omega arith) (omega arith) s) (h .1)))
-made-each P (pair t u) i s h =
-    (s .multiplexer, Each-append P (made t i) _ (made-each P t i (narrow P i _ i _ (omega arith) (omega arith) s) (h .0)) (made-each P u (i + iterators t) (narrow P i _ _ _ (omega arith) (omega arith) s) (h .1)))
-made-each P (split x y t u) i s h =
-    (s .multiplexer, Each-append P (made t i) _ (made-each P t i (narrow P i _ i _ (omega arith) (omega arith) s) (h .0)) (made-each P u (i + iterators t) (narrow P i _ _ _ (omega arith) (omega arith) s) (h .1)))
+made-each P (app t u) i s h = (s .multiplexer, each-two P t u i s (λ a. made-each P t i a (h .0)) (λ a. made-each P u (i + iterators t) a (h .1)))
+made-each P (pair t u) i s h = (s .multiplexer, each-two P t u i s (λ a. made-each P t i a (h .0)) (λ a. made-each P u (i + iterators t) a (h .1)))
+made-each P (split x y t u) i s h = (s .multiplexer, each-two P t u i s (λ a. made-each P t i a (h .0)) (λ a. made-each P u (i + iterators t) a (h .1)))
 made-each P (iter t u v) i s h =
     let own = s .iterator (omega arith) in
     let crossing = s .transfer i (omega arith) (omega arith) in

@@ -1,18 +1,17 @@
 -- What a list of nodes of known kinds and values is at each place.
-use mathlib.Core.Path.{_≡_, refl, sym, ap, subst, _∙_}
+use mathlib.Core.Path.{_≡_, refl, sym, subst}
 use mathlib.Core.List.{List, [], _∷_}
-use mathlib.Core.Bool.{true, not, _&&_}
-use Prim.Native.Nat.{ℕ, zero, suc, _+_, _*_, _/_, _%_, _<_, _≤_}
+use mathlib.Core.Bool.{true}
+use Prim.Native.Nat.{ℕ, zero, suc, _*_, _/_, _%_, _<_, _≤_}
 use native.Mathlib.Omega.{arith}
-use lib.Dec.{eqb, ltb}
 use lib.ListN.{length}
-use Rattle.std.proofs.shelf.Tests.{ne-eqb, lt-ltb, ltb-true, and-parts}
+use Rattle.std.proofs.shelf.Tests.{ne-eqb, lt-ltb}
 use Rattle.std.specs.declared.option.Option.{Option}
 use Rattle.std.specs.declared.option.Option.the-variants.{Some, None}
 use Rattle.cells.specs.declared.kinds.Kind.{Kind}
 use Rattle.cells.specs.Ports.{Node, nodeAt, inside}
 use Rattle.cells.specs.Sound.{Below, Has}
-use Rattle.geometry.specs.Network.{Made, allMade, allWires, network, wired}
+use Rattle.geometry.specs.Network.{Made, allMade, allWires, network}
 use Rattle.calculus.specs.Terms.{Term}
 use Rattle.geometry.proofs.Made.{Each}
 use Rattle.geometry.proofs.Owned.{arityAt, Owns, owns-bound}

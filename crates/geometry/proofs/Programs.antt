@@ -1,10 +1,10 @@
 -- Derivations of the five programs.
 use mathlib.Core.Path.{refl}
-use mathlib.Core.List.{[], _∷_}
+use mathlib.Core.List.{[]}
 use native.Mathlib.Omega.{arith}
 use Rattle.calculus.specs.Types.{N}
-use Rattle.calculus.specs.Typing.{Typed, none-left, not-this, here, there, ty-var, ty-num, ty-succ, ty-lam, ty-app, ty-pair, ty-split, ty-iter}
-use Rattle.geometry.specs.Examples.{next-of-three, applied, taken-apart, repeated, nested, PremisesMet}
+use Rattle.calculus.specs.Typing.{Typed, none-left, here, there, ty-var, ty-num, ty-succ, ty-lam, ty-app, ty-pair, ty-split, ty-iter}
+use Rattle.geometry.specs.Examples.{next-of-three, applied, taken-apart, repeated, nested, WeighedOut, PremisesMet}
 
 of-next-of-three : Typed [] next-of-three N
 of-next-of-three = ty-succ ty-num
@@ -30,3 +30,7 @@ met = record {
   by-repeated = record { typed = of-repeated; small = omega arith; few = omega arith };
   by-nested = record { typed = of-nested; small = omega arith; few = omega arith };
 }
+
+pub weighed-out : WeighedOut
+unfolding of-next-of-three of-applied of-taken-apart
+weighed-out = record { two = (of-next-of-three, refl); six = (of-applied, refl); eleven = (of-taken-apart, refl) }

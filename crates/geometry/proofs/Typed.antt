@@ -1,23 +1,21 @@
 -- The labels along a derivation: they fit the kinds, and the ends of each wire are opposite.
 use mathlib.Core.Path.{_≡_, refl, sym, ap, subst, _∙_}
 use mathlib.Core.List.{List, [], _∷_, _++_}
-use mathlib.Core.Bool.{cond}
-use Prim.Native.Nat.{ℕ, zero, suc, _+_, _*_, _/_, _%_, _<_, _≤_}
+use Prim.Native.Nat.{ℕ, suc, _+_, _/_}
 use native.Mathlib.Omega.{arith}
-use lib.Dec.{eqb}
 use lib.ListN.{length, getD, length-append}
 use Rattle.std.proofs.shelf.Tests.{eq-eqb}
 use Rattle.cells.specs.declared.kinds.Kind.{Kind}
-use Rattle.cells.specs.declared.kinds.Kind.the-variants.{Root, Number, Successor, Multiplexer, Iterator, LeftCounter, RightCounter, Transfer}
+use Rattle.cells.specs.declared.kinds.Kind.the-variants.{Transfer}
 use Rattle.cells.specs.declared.kinds.Port.{Port}
 use Rattle.cells.specs.declared.kinds.Port.the-variants.{First, Second, Third}
 use Rattle.cells.specs.Ports.{placeOf}
 use Rattle.calculus.specs.Types.{Ty, N, _⇒_, _⊗_}
 use Rattle.calculus.specs.Terms.{Term, free, iterators, nodes}
 use Rattle.calculus.specs.Typing.{Ctx, Absent, none-left, not-this, Pick, here, there, Typed, ty-var, ty-num, ty-succ, ty-lam, ty-app, ty-pair, ty-split, ty-iter}
-use Rattle.geometry.specs.Labels.{Label, on, plus, minus, opposite, flip, Fits, at-number, at-successor, at-function, at-pair, at-iterator, at-left-counter, at-right-counter, at-transfer}
+use Rattle.geometry.specs.Labels.{Label, on, plus, minus, flip, Fits, at-number, at-successor, at-function, at-pair, at-iterator, at-left-counter, at-right-counter, at-transfer}
 use Rattle.geometry.specs.Network.{Made, transfers, made, l1, l2, l3, Env, put, Wire, crossings, entered, wires}
-use Rattle.geometry.specs.Derivations.{names, Distinct, Three, idle, carried, labels, slot, labelAt}
+use Rattle.geometry.specs.Derivations.{names, Three, idle, carried, labels, slot, labelAt}
 use Rattle.geometry.proofs.Names.{names-free, Once, once-left, once-right, once-pick}
 use Rattle.geometry.proofs.Made.{made-length}
 use Rattle.geometry.proofs.Ends.{entered-else}
@@ -185,17 +183,24 @@ facing-part lab {Δ} {u} d o s r e h g k =
     let j = s + nodes u in
     Facing-append lab (crossings (free u) j e) _ (subst (λ (xs : List ℕ). Facing lab (crossings xs j e)) z (crossings-face lab Δ j e h g)) (k (subst (λ (xs : List ℕ). Gives lab (entered xs j e) Δ) z (entered-gives lab Δ j e o h)))
 
+-- two parts, the second with the nodes after those of the first
+facing-two : (lab : ℕ → Label) (k a b : ℕ) (e f : Env) {Γ Δ : Ctx} {t u : Term} {A B : Ty} (d : Typed Γ t A) (c : Typed Δ u B) → At lab k (labels d ++ labels c) →
+    (At lab k (labels d) → Facing lab (wires t k a e)) → (At lab (k + nodes t) (labels c) → Facing lab (wires u (k + nodes t) b f)) → Facing lab (wires t k a e ++ wires u (k + nodes t) b f)
+facing-two lab k a b e f {t = t} d c h g i =
+    Facing-append lab (wires t k a e) _ (g (At-left lab k (labels d) (labels c) h)) (i (At-right lab k _ (labels d) (labels c) (omega (arith, labels-length d)) h))
+
 pub faced : (lab : ℕ → Label) {Γ : Ctx} {t : Term} {A : Ty} (d : Typed Γ t A) → Once Γ → (k r : ℕ) (e : Env) → At lab k (labels d) → lab r ≡ on minus A → Gives lab e Γ → Facing lab (wires t k r e)
 faced lab (ty-var {A = A}) o k r e h g f = (up lab _ r A (f .0) g, tt)
 faced lab ty-num o k r e h g f = (down lab r _ N g (h .0), tt)
 faced lab (ty-succ d) o k r e h g f = (down lab r _ N g (h .1), faced lab d o _ _ e (h .3) (h .0) f)
 faced lab (ty-lam {T = T} {U = U} d p) o k r e h g f = (down lab r _ (T ⇒ U) g (h .0), faced lab d (once-pick p o) _ _ _ (h .3) (h .1) (Gives-put lab e _ p (h .2) f))
-faced lab (ty-app {U = U} {Γ = Γ} {Δ = Δ} d c) o k r e h g f =
-    (down lab r _ U g (h .1), Facing-append lab _ _ (faced lab d (once-left Γ Δ o) _ _ e (At-left lab _ (labels d) (labels c) (h .3)) (h .0) (Gives-left lab e Γ Δ f)) (faced lab c (once-right Γ Δ o) _ _ e (At-right lab _ _ (labels d) (labels c) (omega (arith, labels-length d)) (h .3)) (h .2) (Gives-right lab e Γ Δ f)))
+faced lab (ty-app {T = T} {U = U} {Γ = Γ} {Δ = Δ} d c) o k r e h g f =
+    (down lab r _ U g (h .1), facing-two lab (suc k) (l1 k) (l3 k) e e d c (h .3) (λ a. faced lab d (once-left Γ Δ o) _ _ e a (h .0) (Gives-left lab e Γ Δ f)) (λ a. faced lab c (once-right Γ Δ o) _ _ e a (h .2) (Gives-right lab e Γ Δ f)))
 faced lab (ty-pair {T = T} {U = U} {Γ = Γ} {Δ = Δ} d c) o k r e h g f =
-    (down lab r _ (T ⊗ U) g (h .0), Facing-append lab _ _ (faced lab d (once-left Γ Δ o) _ _ e (At-left lab _ (labels d) (labels c) (h .3)) (h .1) (Gives-left lab e Γ Δ f)) (faced lab c (once-right Γ Δ o) _ _ e (At-right lab _ _ (labels d) (labels c) (omega (arith, labels-length d)) (h .3)) (h .2) (Gives-right lab e Γ Δ f)))
-faced lab (ty-split {Γ = Γ} {Δ₂ = Δ} d c p q) o k r e h g f =
-    Facing-append lab _ _ (faced lab d (once-left Γ Δ o) _ _ e (At-left lab _ (labels d) (labels c) (h .3)) (h .0) (Gives-left lab e Γ Δ f)) (faced lab c (once-pick p (once-pick q (once-right Γ Δ o))) _ r _ (At-right lab _ _ (labels d) (labels c) (omega (arith, labels-length d)) (h .3)) g (Gives-put lab _ _ p (h .2) (Gives-put lab e _ q (h .1) (Gives-right lab e Γ Δ f))))
+    (down lab r _ (T ⊗ U) g (h .0), facing-two lab (suc k) (l2 k) (l3 k) e e d c (h .3) (λ a. faced lab d (once-left Γ Δ o) _ _ e a (h .1) (Gives-left lab e Γ Δ f)) (λ a. faced lab c (once-right Γ Δ o) _ _ e a (h .2) (Gives-right lab e Γ Δ f)))
+faced lab (ty-split {x = x} {y = y} {Γ = Γ} {Δ₂ = Δ} d c p q) o k r e h g f =
+    let e₁ = put e x (l2 k) in
+    facing-two lab (suc k) (l1 k) r e (put e₁ y (l3 k)) d c (h .3) (λ a. faced lab d (once-left Γ Δ o) _ _ e a (h .0) (Gives-left lab e Γ Δ f)) (λ a. faced lab c (once-pick p (once-pick q (once-right Γ Δ o))) _ r _ a g (Gives-put lab e₁ _ p (h .2) (Gives-put lab e _ q (h .1) (Gives-right lab e Γ Δ f))))
 faced lab (ty-iter {A = A} {t = t} {u = u} {v = v} {Γ = Γ} {Δ = Δ} {Θ = Θ} d c b) o k r e h g f =
     let o′ = once-right Γ (Δ ++ Θ) o in
     let f′ = Gives-right lab e Γ (Δ ++ Θ) f in

@@ -1,18 +1,17 @@
 -- What the nodes are: plain kinds without iterator, numbers of the term, and a network read back from memory.
-use mathlib.Core.Path.{_≡_, refl, sym, ap, subst, _∙_}
+use mathlib.Core.Path.{_≡_, refl}
 use mathlib.Core.List.{List, [], _∷_, map}
-use Prim.Native.Nat.{ℕ, zero, suc, _+_, _<_, _≤_}
+use Prim.Native.Nat.{ℕ, _≤_}
 use native.Mathlib.Omega.{arith}
-use Rattle.std.specs.declared.option.Option.{Option}
-use Rattle.std.specs.declared.option.Option.the-variants.{Some, None}
+use Rattle.std.specs.declared.option.Option.the-variants.{Some}
 use Rattle.cells.specs.declared.kinds.Kind.{Kind}
 use Rattle.cells.specs.declared.kinds.Kind.the-variants.{Root, Number, Successor, Multiplexer, Iterator, LeftCounter, RightCounter, Transfer}
 use Rattle.cells.specs.Ports.{Node, nodeAt, kindNumber, kindOf, nodeOf, nodesOf}
-use Rattle.calculus.specs.Terms.{Term, var, num, succ, lam, app, pair, split, iter, iterators}
+use Rattle.calculus.specs.Terms.{Term, iterators}
 use Rattle.geometry.specs.Labels.{Plain, AllPlain}
-use Rattle.geometry.specs.Network.{Made, made, allMade, network, numberOf, cellOf}
-use Rattle.geometry.specs.Derivations.{EachNumber, NumbersWithin}
-use Rattle.geometry.proofs.Made.{Each, made-each, every-number}
+use Rattle.geometry.specs.Network.{Made, allMade, network, numberOf, cellOf}
+use Rattle.geometry.specs.Derivations.{NumbersWithin}
+use Rattle.geometry.proofs.Made.{made-each, every-number}
 use Rattle.geometry.proofs.Wired.{Bears}
 use Rattle.geometry.proofs.Nodes.{bears-network, each-kind}
 
@@ -21,12 +20,15 @@ Unmixed κ v = Plain κ
 
 pub plain : (t : Term) → iterators t ≡ 0 → AllPlain (network t)
 plain t z k κ h =
-    each-kind Unmixed (network t) (allMade t) (bears-network t) (tt, made-each Unmixed t 1 (record {
-      successor = tt;
-      multiplexer = tt;
-      iterator = λ g. absurd (omega arith);
-      transfer = λ j a b. absurd (omega arith);
-    }) (every-number (Unmixed Number) t (λ n. tt))) k κ h
+    each-kind Unmixed (network t) (allMade t) (bears-network t) (
+      tt,
+      made-each Unmixed t 1 (record {
+        successor = tt;
+        multiplexer = tt;
+        iterator = λ g. absurd (omega arith);
+        transfer = λ j a b. absurd (omega arith);
+      }) (every-number (Unmixed Number) t (λ n. tt)),
+    ) k κ h
 
 -- a number is at most b
 abbrev Small : ℕ → Kind → ℕ → Type 0
@@ -41,12 +43,15 @@ Small b Transfer v = Unit {0}
 
 pub numbers-kept : (t : Term) (b : ℕ) → NumbersWithin b t → (k : ℕ) → nodeAt (network t) k .kind ≡ Some Number → nodeAt (network t) k .value ≤ b
 numbers-kept t b w k h =
-    each-kind (Small b) (network t) (allMade t) (bears-network t) (tt, made-each (Small b) t 1 (record {
-      successor = tt;
-      multiplexer = tt;
-      iterator = λ g. (tt, tt, tt);
-      transfer = λ j c d. tt;
-    }) w) k Number h
+    each-kind (Small b) (network t) (allMade t) (bears-network t) (
+      tt,
+      made-each (Small b) t 1 (record {
+        successor = tt;
+        multiplexer = tt;
+        iterator = λ g. (tt, tt, tt);
+        transfer = λ j c d. tt;
+      }) w,
+    ) k Number h
 
 kind-back : (κ : Kind) → kindOf (kindNumber κ) ≡ Some κ
 kind-back Root = refl

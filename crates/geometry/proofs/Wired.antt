@@ -1,21 +1,18 @@
 -- Wires written into nodes: the links read back, the kinds and the values kept.
-use mathlib.Core.Path.{_≡_, refl, sym, ap, subst, _∙_}
+use mathlib.Core.Path.{_≡_, refl, sym, ap, _∙_}
 use mathlib.Core.List.{List, [], _∷_, _++_, map}
-use mathlib.Core.Bool.{Bool, true, false, cond}
-use Prim.Native.Nat.{ℕ, zero, suc, _+_, _*_, _/_, _%_, _<_, _≤_}
+use Prim.Native.Nat.{ℕ, zero, suc, _/_, _%_, _<_, _≤_}
 use native.Mathlib.Omega.{arith}
 use native.Mathlib.Decide.{decLt, ℕ-discrete}
-use lib.Dec.{eqb}
-use lib.ListN.{length, getD, set, length-set}
+use lib.ListN.{length, set, length-set}
 use Rattle.std.proofs.shelf.Lists.{getD-set-same, getD-set-other, set-past}
 use Rattle.std.proofs.shelf.Tests.{eq-eqb, ne-eqb}
 use Rattle.std.specs.declared.option.Option.the-variants.{Some}
-use Rattle.cells.specs.declared.kinds.Kind.{Kind}
 use Rattle.cells.specs.declared.kinds.Port.{Port}
 use Rattle.cells.specs.declared.kinds.Port.the-variants.{First, Second, Third}
 use Rattle.cells.specs.Ports.{Node, blank, absent, offset, placeOf, linkAt, nodeAt, link}
 use Rattle.geometry.specs.Network.{Made, Wire, relinked, linkTo, wired, bare}
-use Rattle.geometry.proofs.Ends.{hit, hit-tells, ends}
+use Rattle.geometry.proofs.Ends.{hit-tells, ends}
 use Rattle.geometry.proofs.Joins.{Joined, fore, back, later}
 
 pub placeOf-first : (p : ℕ) → p % 3 ≡ 0 → placeOf p ≡ First
@@ -65,6 +62,7 @@ linkTo-other ns p q o h = go (ℕ-discrete (o / 3) (p / 3)) (decLt (p / 3) (leng
   where
     n : Node
     n = relinked (nodeAt ns (p / 3)) (placeOf p) q
+
     go : Dec (o / 3 ≡ p / 3) → Dec (p / 3 < length ns) → linkAt (nodeAt (set ns (p / 3) n) (o / 3)) (placeOf o) ≡ linkAt (nodeAt ns (o / 3)) (placeOf o)
     go (no a) b = rw (getD-set-other ns (p / 3) (o / 3) n blank a) refl
     go (yes a) (no b) = rw (set-past ns (p / 3) n (omega arith)) refl
@@ -144,6 +142,7 @@ bare-absent ms p h = go ms (p / 3) (placeOf p) h
     all m First = refl
     all m Second = refl
     all m Third = refl
+
     go : (ms : List Made) (k : ℕ) (π : Port) → k < length ms → linkAt (nodeAt (map bare ms) k) π ≡ absent
     go [] k π h = absurd (omega arith)
     go (m ∷ ms) zero π h = all m π

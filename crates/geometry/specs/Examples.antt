@@ -8,7 +8,7 @@ use Rattle.cells.specs.declared.kinds.Kind.the-variants.{Root, Number, Successo
 use Rattle.cells.specs.Ports.{Node, absent}
 use Rattle.calculus.specs.Types.{N, _⇒_}
 use Rattle.calculus.specs.Terms.{Term, var, num, succ, lam, app, pair, split, iter, iterators, nodes}
-use Rattle.calculus.specs.Typing.{Typed}
+use Rattle.calculus.specs.Typing.{Typed, weight}
 use Rattle.geometry.specs.Network.{network}
 
 -- nodes with one, two and three ports
@@ -114,6 +114,12 @@ pub record WrittenOut : Type 0 where
   pub of-taken-apart : network taken-apart ≡ net-taken-apart
   pub of-repeated : network repeated ≡ net-repeated
   pub of-nested : network nested ≡ net-nested
+
+-- their weights, where there is no iterator
+pub record WeighedOut : Type 0 where
+  pub two : (d : Typed [] next-of-three N) × (weight d ≡ 2)
+  pub six : (d : Typed [] applied N) × (weight d ≡ 6)
+  pub eleven : (d : Typed [] taken-apart N) × (weight d ≡ 11)
 
 -- a closed program of type N that is small enough, with no more than 64 iterators
 pub record Fitting (t : Term) : Type 0 where

@@ -1,4 +1,5 @@
 -- The network of a term: its nodes, numbered as they are made, and the wires between their ports. Assumes nothing.
+use mathlib.Core.Path.{_≡_}
 use mathlib.Core.List.{List, [], _∷_, _++_, map}
 use mathlib.Core.Bool.{cond}
 use Prim.Native.Nat.{ℕ, suc, _+_, _*_, _/_}
@@ -11,7 +12,7 @@ use Rattle.cells.specs.declared.kinds.Kind.the-variants.{Root, Number, Successo
 use Rattle.cells.specs.declared.kinds.Port.{Port}
 use Rattle.cells.specs.declared.kinds.Port.the-variants.{First, Second, Third}
 use Rattle.cells.specs.declared.kinds.Cell.{Cell}
-use Rattle.cells.specs.Ports.{Node, kindNumber, absent, placeOf, nodeAt}
+use Rattle.cells.specs.Ports.{Node, kindNumber, absent, placeOf, nodeAt, link}
 use Rattle.calculus.specs.Terms.{Term, var, num, succ, lam, app, pair, split, iter, free, iterators, nodes}
 
 -- a node as it is made: its kind and its value
@@ -61,6 +62,11 @@ put e x p y = cond (eqb x y) p (e y)
 -- a wire, by its two ends
 abbrev pub Wire : Type 0
 Wire = ℕ × ℕ
+
+-- P holds of each of the variables
+abbrev pub EachVariable : (ℕ → Type 0) → List ℕ → Type 0
+EachVariable P [] = Unit {0}
+EachVariable P (x ∷ xs) = P x × EachVariable P xs
 
 -- from outside, the variables' wires go to l1 of the Transfer nodes j, j + 1, ...
 abbrev pub crossings : List ℕ → ℕ → Env → List Wire
@@ -116,6 +122,11 @@ linkTo ns p q = set ns (p / 3) (relinked (nodeAt ns (p / 3)) (placeOf p) q)
 abbrev pub wired : List Wire → List Node → List Node
 wired [] ns = ns
 wired (w ∷ ws) ns = wired ws (linkTo (linkTo ns (w .0) (w .1)) (w .1) (w .0))
+
+-- the two ends of each wire are each other's links
+abbrev pub Kept : List Node → List Wire → Type 0
+Kept ns [] = Unit {0}
+Kept ns (w ∷ ws) = (link ns (w .0) ≡ w .1) × (link ns (w .1) ≡ w .0) × Kept ns ws
 
 -- a node that is not yet linked
 abbrev pub bare : Made → Node
