@@ -16,11 +16,13 @@ use Rattle.cells.specs.declared.kinds.Port.{Port}
 use Rattle.cells.specs.Ports.{kindNumber, arity, offset}
 use Rattle.token.specs.declared.memory.Letter.{Letter}
 use Rattle.token.specs.declared.memory.Letter.the-variants.{Left, Right}
+use Rattle.token.specs.declared.memory.Side.{Side}
+use Rattle.token.specs.declared.memory.Side.the-variants as side
 use Rattle.token.specs.declared.memory.IterCell.{IterCell}
 use Rattle.token.specs.declared.memory.IterCell.the-variants as iter
 use Rattle.token.specs.declared.memory.DataCell.{DataCell}
 use Rattle.token.specs.declared.memory.DataCell.the-variants as dat
-use Rattle.token.specs.Table.{Stacks, Side, left, right, pairOn, countOf, keptOf, Top, Change, Row, table, fits, changed, isShelf, byLetter, byData, byIter, byTop, anything, letter, question, questions, number, own, positive, overQuestion, iterCell, iterNumber, pair, started, counting, shelved, give, takeBack, ask, unask, lower, raise, push, pop, pose, withdraw, store, restore, start, finish, countUp, countDown, shelve, unshelve}
+use Rattle.token.specs.Table.{Stacks, pairOn, countOf, keptOf, Top, Change, Row, table, fits, changed, isShelf, byLetter, byData, byIter, byTop, anything, letter, question, questions, number, own, positive, overQuestion, iterCell, iterNumber, pair, started, counting, shelved, give, takeBack, ask, unask, lower, raise, push, pop, pose, withdraw, store, restore, start, finish, countUp, countDown, shelve, unshelve}
 use Rattle.token.specs.Next.{applies, firstRow}
 use Rattle.token.specs.Rows.{guard, undo, reverse, Member, Undone, TableStands}
 use Rattle.token.proofs.Tests.{false-true, none-some, eqb-same, eqb-yes, eqb-equal, eqb-apart, leb-yes, leb-most, both, and-true, not-true, whether}
@@ -38,10 +40,10 @@ looksAt overQuestion = 2
 looksAt iterCell = 0
 looksAt iterNumber = 0
 looksAt pair = 0
-looksAt (started left) = 3
-looksAt (started right) = 4
-looksAt (counting left) = 3
-looksAt (counting right) = 4
+looksAt (started side.Left) = 3
+looksAt (started side.Right) = 4
+looksAt (counting side.Left) = 3
+looksAt (counting side.Right) = 4
 looksAt shelved = 0
 
 abbrev sees : Top → ℕ
@@ -74,7 +76,7 @@ abbrev sign : ℕ → Stacks → ℕ
 sign n s =
     cond (eqb n 1) (letterSign (s .letters))
     (cond (eqb n 2) (dataSign (s .datas))
-    (cond (eqb n 3) (countSign left (s .iters)) (cond (eqb n 4) (countSign right (s .iters)) 0)))
+    (cond (eqb n 3) (countSign side.Left (s .iters)) (cond (eqb n 4) (countSign side.Right (s .iters)) 0)))
 
 on-letter : (l : Letter) (v : ℕ) (ls : List Letter) (cs : List IterCell) (ds : List DataCell) (ss : List (List IterCell)) → fits (letter l) v (record { letters = ls; iters = cs; datas = ds; shelves = ss }) ≡ true → letterSign ls ≡ sees (letter l)
 on-letter Left v [] cs ds ss h = false-true h
@@ -116,10 +118,10 @@ seen overQuestion v s h = on-number _ (s .datas) h
 seen iterCell v s h = refl
 seen iterNumber v s h = refl
 seen pair v s h = refl
-seen (started left) v s h = on-started left (s .iters) h
-seen (started right) v s h = on-started right (s .iters) h
-seen (counting left) v s h = on-counting left (s .iters) h
-seen (counting right) v s h = on-counting right (s .iters) h
+seen (started side.Left) v s h = on-started side.Left (s .iters) h
+seen (started side.Right) v s h = on-started side.Right (s .iters) h
+seen (counting side.Left) v s h = on-counting side.Left (s .iters) h
+seen (counting side.Right) v s h = on-counting side.Right (s .iters) h
 seen shelved v s h = refl
 
 -- two tops that see different signs at one place
@@ -325,14 +327,14 @@ undo-restore v ls (iter.Pair a b ∷ cs) ds ss h = false-true h
 
 undo-start : (σ : Side) (v : ℕ) (ls : List Letter) (cs : List IterCell) (ds : List DataCell) (ss : List (List IterCell)) → Undoes (start σ) v ls cs ds ss
 undo-start σ v ls [] ds ss h = false-true h
-undo-start left v ls (iter.Number a ∷ cs) ds ss h = record { again = refl; back = refl }
-undo-start right v ls (iter.Number a ∷ cs) ds ss h = record { again = refl; back = refl }
+undo-start side.Left v ls (iter.Number a ∷ cs) ds ss h = record { again = refl; back = refl }
+undo-start side.Right v ls (iter.Number a ∷ cs) ds ss h = record { again = refl; back = refl }
 undo-start σ v ls (iter.Pair a b ∷ cs) ds ss h = false-true h
 
 -- a pair is known by its count and what it keeps
 pair-of : (σ : Side) (a b n : ℕ) → n ≡ countOf σ a b → pairOn σ n (keptOf σ a b) ≡ iter.Pair a b
-pair-of left a b n e = ap (λ m. iter.Pair m b) e
-pair-of right a b n e = ap (λ m. iter.Pair a m) e
+pair-of side.Left a b n e = ap (λ m. iter.Pair m b) e
+pair-of side.Right a b n e = ap (λ m. iter.Pair a m) e
 
 undo-finish : (σ : Side) (v : ℕ) (ls : List Letter) (cs : List IterCell) (ds : List DataCell) (ss : List (List IterCell)) → Undoes (finish σ) v ls cs ds ss
 undo-finish σ v ls [] ds ss h = false-true h
@@ -342,14 +344,14 @@ undo-finish σ v ls (iter.Pair a b ∷ cs) ds ss h = record { again = refl; back
 undo-up : (σ : Side) (v : ℕ) (ls : List Letter) (cs : List IterCell) (ds : List DataCell) (ss : List (List IterCell)) → Undoes (countUp σ) v ls cs ds ss
 undo-up σ v ls [] ds ss h = false-true h
 undo-up σ v ls (iter.Number a ∷ cs) ds ss h = false-true h
-undo-up left v ls (iter.Pair a b ∷ cs) ds ss h = record { again = not-zero a; back = ap (λ n. stacks ls (iter.Pair n b ∷ cs) ds ss) (up-down a) }
-undo-up right v ls (iter.Pair a b ∷ cs) ds ss h = record { again = not-zero b; back = ap (λ n. stacks ls (iter.Pair a n ∷ cs) ds ss) (up-down b) }
+undo-up side.Left v ls (iter.Pair a b ∷ cs) ds ss h = record { again = not-zero a; back = ap (λ n. stacks ls (iter.Pair n b ∷ cs) ds ss) (up-down a) }
+undo-up side.Right v ls (iter.Pair a b ∷ cs) ds ss h = record { again = not-zero b; back = ap (λ n. stacks ls (iter.Pair a n ∷ cs) ds ss) (up-down b) }
 
 undo-down : (σ : Side) (v : ℕ) (ls : List Letter) (cs : List IterCell) (ds : List DataCell) (ss : List (List IterCell)) → Undoes (countDown σ) v ls cs ds ss
 undo-down σ v ls [] ds ss h = false-true h
 undo-down σ v ls (iter.Number a ∷ cs) ds ss h = false-true h
-undo-down left v ls (iter.Pair a b ∷ cs) ds ss h = record { again = refl; back = ap (λ n. stacks ls (iter.Pair n b ∷ cs) ds ss) (down-up a h) }
-undo-down right v ls (iter.Pair a b ∷ cs) ds ss h = record { again = refl; back = ap (λ n. stacks ls (iter.Pair a n ∷ cs) ds ss) (down-up b h) }
+undo-down side.Left v ls (iter.Pair a b ∷ cs) ds ss h = record { again = refl; back = ap (λ n. stacks ls (iter.Pair n b ∷ cs) ds ss) (down-up a h) }
+undo-down side.Right v ls (iter.Pair a b ∷ cs) ds ss h = record { again = refl; back = ap (λ n. stacks ls (iter.Pair a n ∷ cs) ds ss) (down-up b h) }
 
 -- a shelf's number names one of the shelves
 place : (k : ℕ) (ss : List (List IterCell)) → (leb 1 (suc k) && leb (suc k) (length ss)) ≡ true → k < length ss

@@ -11,6 +11,8 @@ use Rattle.cells.specs.declared.kinds.Port.the-variants.{First, Second, Third}
 use Rattle.stack.specs.Shelving.{shelf, with-shelf}
 use Rattle.token.specs.declared.memory.Letter.{Letter}
 use Rattle.token.specs.declared.memory.Letter.the-variants.{Left, Right}
+use Rattle.token.specs.declared.memory.Side.{Side}
+use Rattle.token.specs.declared.memory.Side.the-variants as side
 use Rattle.token.specs.declared.memory.IterCell.{IterCell}
 use Rattle.token.specs.declared.memory.IterCell.the-variants as iter
 use Rattle.token.specs.declared.memory.DataCell.{DataCell}
@@ -39,21 +41,18 @@ withShelves ss s = record { letters = s .letters; iters = s .iters; datas = s .d
 abbrev pub isShelf : ℕ → Stacks → Bool
 isShelf j s = leb 1 j && leb j (length (s .shelves))
 
--- the side of a pair on which a counter counts; the other side keeps the number
-pub data Side : Type 0 where
-  left right : Side
-
+-- a pair whose count stands on one side, and what it keeps on the other
 abbrev pub pairOn : Side → (count kept : ℕ) → IterCell
-pairOn left c k = iter.Pair c k
-pairOn right c k = iter.Pair k c
+pairOn side.Left c k = iter.Pair c k
+pairOn side.Right c k = iter.Pair k c
 
 abbrev pub countOf : Side → (a b : ℕ) → ℕ
-countOf left a b = a
-countOf right a b = b
+countOf side.Left a b = a
+countOf side.Right a b = b
 
 abbrev pub keptOf : Side → (a b : ℕ) → ℕ
-keptOf left a b = b
-keptOf right a b = a
+keptOf side.Left a b = b
+keptOf side.Right a b = a
 
 -- what a row asks of the stacks
 pub data Top : Type 0 where
@@ -115,14 +114,14 @@ table =
     ∷ row kind.Iterator First question withdraw Second
     ∷ row kind.Iterator First number store Third
     ∷ row kind.Iterator Third iterNumber restore First
-    ∷ row kind.LeftCounter Second iterNumber (start left) First
-    ∷ row kind.LeftCounter First (started left) (finish left) Second
-    ∷ row kind.LeftCounter Third pair (countUp left) First
-    ∷ row kind.LeftCounter First (counting left) (countDown left) Third
-    ∷ row kind.RightCounter Second iterNumber (start right) First
-    ∷ row kind.RightCounter First (started right) (finish right) Second
-    ∷ row kind.RightCounter Third pair (countUp right) First
-    ∷ row kind.RightCounter First (counting right) (countDown right) Third
+    ∷ row kind.LeftCounter Second iterNumber (start side.Left) First
+    ∷ row kind.LeftCounter First (started side.Left) (finish side.Left) Second
+    ∷ row kind.LeftCounter Third pair (countUp side.Left) First
+    ∷ row kind.LeftCounter First (counting side.Left) (countDown side.Left) Third
+    ∷ row kind.RightCounter Second iterNumber (start side.Right) First
+    ∷ row kind.RightCounter First (started side.Right) (finish side.Right) Second
+    ∷ row kind.RightCounter Third pair (countUp side.Right) First
+    ∷ row kind.RightCounter First (counting side.Right) (countDown side.Right) Third
     ∷ row kind.Transfer Second iterCell shelve First
     ∷ row kind.Transfer First shelved unshelve Second
     ∷ []

@@ -10,3 +10,4 @@ pub use memory::IterCellPartialEq;
 pub use memory::Letter;
 pub use memory::LetterDebug;
 pub use memory::LetterPartialEq;
+pub use memory::Side;

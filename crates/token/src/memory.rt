@@ -14,6 +14,13 @@ pub enum IterCell {
     Pair(u32, u32),
 }
 
+// The side of a pair on which a counter counts; the other side keeps the number.
+#[derive(Clone, Copy, PartialEq, Eq, Debug)]
+pub enum Side {
+    Left,
+    Right,
+}
+
 // A cell on d: the question, or a number that answers it.
 #[derive(Clone, Copy, PartialEq, Eq, Debug)]
 pub enum DataCell {
