@@ -6,6 +6,8 @@ pub mod Questions
 pub mod Orbit
 pub mod Steps
 pub mod Crossing
+pub mod Ways
 pub mod Way
 pub mod Programs
+pub mod Further
 pub mod Example

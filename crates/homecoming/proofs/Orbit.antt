@@ -2,7 +2,7 @@
 use mathlib.Core.Path.{_≡_, refl, sym, ap, _∙_, subst}
 use mathlib.Core.Bool.{Bool, true, false}
 use mathlib.Core.Logic.{inl, inr}
-use mathlib.Core.List.{List, [], _∷_}
+use mathlib.Core.List.{List, []}
 use Prim.Native.Nat.{ℕ, zero, suc, _+_, _*_, _/_, _%_, _≤_, _<_}
 use native.Mathlib.Omega.{arith}
 use lib.ListN.{length}
@@ -21,7 +21,7 @@ use Rattle.homecoming.proofs.Letters.{Asks}
 use Rattle.homecoming.proofs.Nodes.{isKind, is-kind, across, across-twice, among, Crosses, Passed, passes, not-root, at-successor-node}
 use Rattle.homecoming.proofs.Pigeonhole.{In, count, count-all, few-in, Least, least}
 use Rattle.token.proofs.Ports.{node-of, rest-of, place-of, offset-of, port-of}
-use Rattle.homecoming.proofs.Inside.{inside-low, inside-is}
+use Rattle.homecoming.proofs.Inside.{inside-low, inside-is, root-has}
 use Rattle.homecoming.proofs.Questions.{Position, Question, questions, questions-length, question-in, successorList, successorList-length, successor-in}
 
 abbrev pub kindAt : List Node → ℕ → Option Kind
@@ -62,10 +62,6 @@ among-label : (label : ℕ → Label) (k : ℕ) (q : Port) → among (label (3 *
 among-label label k First = let e : 3 * k ≡ 3 * k + 0 = omega arith in ap label e
 among-label label k Second = refl
 among-label label k Third = refl
-
-nonempty : (ns : List Node) → nodeAt ns 0 .kind ≡ Some Root → 0 < length ns
-nonempty [] e = let z : _≡_ {A = ℕ} 0 1 = cc in absurd (omega arith)
-nonempty (n ∷ ns) e = omega arith
 
 root-asks : (a b c : Label) → Fits Root a b c → Asks (flip a) []
 root-asks a b c at-root = refl
@@ -145,13 +141,10 @@ module _ (ns : List Node) (label : ℕ → Label) (g : Network ns label) where
   onward-injective : (x y : Position) → Question ns label x → Question ns label y → Passing x → Passing y → onward ns x ≡ onward ns y → x ≡ y
   onward-injective x y q u e f h = sym (undo x q e) ∙ ap (λ z. over ns (along ns z)) h ∙ undo y u f
 
-  pub root-has : Has ns 0
-  root-has = record { lies = inside-is ns 0 (nonempty ns (g .sound .root)) (omega arith); owned = subst (λ o. Below 0 o) (sym (g .sound .root)) (omega arith) }
-
   opening-asks : Question ns label (orbit ns 0)
   opening-asks =
-      let m = g .sound .linked 0 root-has in
-      (m .there, subst (λ a. Asks a []) (sym (g .labelled .ends 0 root-has)) (root-asks _ _ _ (g .labelled .fits 0 Root (g .sound .root))))
+      let m = g .sound .linked 0 (root-has ns (g .sound)) in
+      (m .there, subst (λ a. Asks a []) (sym (g .labelled .ends 0 (root-has ns (g .sound)))) (root-asks _ _ _ (g .labelled .fits 0 Root (g .sound .root))))
 
   -- no question comes to node 0
   pub not-home : (x : Position) → Question ns label x → 0 ≡ x .0 / 3 → ⊥
@@ -162,7 +155,7 @@ module _ (ns : List Node) (label : ℕ → Label) (g : Network ns label) where
   -- so none goes on to the opening
   not-before : (x : Position) → Question ns label x → Passing x → orbit ns 0 ≡ onward ns x → ⊥
   not-before x q e h =
-      let same : 0 ≡ over ns x .0 = sym (g .sound .linked 0 root-has .back) ∙ ap (λ z. along ns z .0) h ∙ ap (λ z. z .0) (along-back x q e) in
+      let same : 0 ≡ over ns x .0 = sym (g .sound .linked 0 (root-has ns (g .sound)) .back) ∙ ap (λ z. along ns z .0) h ∙ ap (λ z. z .0) (along-back x q e) in
       let node = node-of (x .0 / 3) (across (kindAt ns (x .0)) (placeOf (x .0)) (x .1) .0) in
       not-home x q (omega arith)
 

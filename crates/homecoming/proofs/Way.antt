@@ -10,9 +10,8 @@ use Rattle.std.proofs.shelf.Ways.{tells}
 use Rattle.cells.specs.declared.kinds.Kind.the-variants.{Number, Successor}
 use Rattle.cells.specs.Ports.{Node, nodeAt, link, linked}
 use Rattle.geometry.specs.Labels.{Label, networkWeight, successorNodes}
-use Rattle.machine.specs.Steps.{Next, to, then, go}
-use Rattle.machine.specs.Lawful.{go-none, go-first}
-use Rattle.machine.proofs.Ways.{go-more}
+use Rattle.machine.specs.Steps.{to, go}
+use Rattle.machine.specs.Lawful.{go-none}
 use Rattle.token.specs.declared.memory.DataCell.{DataCell}
 use Rattle.token.specs.declared.memory.DataCell.the-variants as dat
 use Rattle.token.specs.State.{Rooms, opened, entrance}
@@ -22,16 +21,11 @@ use Rattle.homecoming.proofs.Letters.{asks-height}
 use Rattle.homecoming.proofs.Nodes.{isKind, is-kind, stacked, deeper, raised}
 use Rattle.homecoming.proofs.Pigeonhole.{bump, count}
 use Rattle.homecoming.proofs.Questions.{Question, few-successor-nodes}
-use Rattle.homecoming.proofs.Orbit.{kindAt, orbit, at, out, Going, orbit-asks, number-met, passesSuccessor, few-successors, root-has}
+use Rattle.homecoming.proofs.Orbit.{kindAt, orbit, at, out, Going, orbit-asks, number-met, passesSuccessor, few-successors}
+use Rattle.homecoming.proofs.Inside.{root-has}
+use Rattle.homecoming.proofs.Ways.{first-step, last-step}
 use Rattle.homecoming.proofs.Crossing.{asking, answering, Room, passes-out, passes-back, turns}
 use Rattle.homecoming.proofs.Steps.{stands, step}
-
--- a step first, and a step last
-first-step : {S : Type 0} (f : S → Next S) (n : ℕ) (x y : S) → f x ≡ to y → go f (suc n) x ≡ go f n y
-first-step f n x y e = go-first f n x ∙ ap (λ o. then o (go f n)) e
-
-last-step : {S : Type 0} (f : S → Next S) (n : ℕ) (x y z : S) → go f n x ≡ to y → f y ≡ to z → go f (suc n) x ≡ to z
-last-step f n x y z h e = let is : suc n ≡ n + 1 = omega arith in ap (λ n. go f n x) is ∙ go-more f n x y z h e
 
 abbrev double : ℕ → ℕ
 double zero = zero
@@ -106,7 +100,7 @@ module _ (ns : List Node) (label : ℕ → Label) (rs : Rooms) (g : Network ns l
   -- the opening is the token with the question at the first position
   opening : 1 ≤ rs .datas → opened ns rs dat.Question ≡ asking ns label rs g (orbit ns 0) (dat.Question ∷ [])
   opening h =
-      let m = g .sound .linked 0 (root-has ns label g) in
+      let m = g .sound .linked 0 (root-has ns (g .sound)) in
       let some : eqb (rs .datas) 0 ≡ false = grind (arith, tells) in
       let to-link : entrance ns ≡ link ns 0 = ap (λ b. cond b (link ns 0) 0) (m .there .lies) in
       let cell : cond (eqb (rs .datas) 0) [] (dat.Question ∷ []) ≡ dat.Question ∷ [] = ap (λ b. cond b [] (dat.Question ∷ [])) some in
@@ -117,7 +111,7 @@ module _ (ns : List Node) (label : ℕ → Label) (rs : Rooms) (g : Network ns l
       let met = number-met ns label g in
       let j = met .at in
       let b = back memory j (met .not-before) (met .here) j 0 (omega arith) [] refl in
-      let m = g .sound .linked 0 (root-has ns label g) in
+      let m = g .sound .linked 0 (root-has ns (g .sound)) in
       let twice = double-is j in
       let below = met .below in
       let cells = memory .datas in
