@@ -1,0 +1,13 @@
+pub mod Letters
+pub mod Nodes
+pub mod Pigeonhole
+pub mod Inside
+pub mod Questions
+pub mod Orbit
+pub mod Steps
+pub mod Crossing
+pub mod Ways
+pub mod Way
+pub mod Programs
+pub mod Further
+pub mod Example

@@ -1,0 +1,4 @@
+pub mod Home
+pub mod Programs
+pub mod Further
+pub mod Example
