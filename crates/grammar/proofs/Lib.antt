@@ -2,3 +2,8 @@ mod Contexts
 mod Unique
 mod Rules
 mod Inferred
+mod Machine
+mod Runs
+mod Simulation
+mod Limits
+mod Whole
