@@ -1,1 +1,4 @@
 // From text to checked program: what a text must be to be accepted, and what it is refused with else.
+pub mod measure;
+pub mod table;
+pub mod types;
