@@ -151,3 +151,13 @@ module _ (cells : List TypeCell) (measures : List Measure) (long : length measur
 
   pub measured-more : (x : TypeCell) (k : ℕ) (A : Ty) → DenotesType (cells ++ (x ∷ [])) k A → getD (measures ++ (measureAt measures x ∷ [])) k number ≡ measureOf A
   measured-more x k A d = at x k A d (cases-lt k (length cells))
+
+  pub heights-more : (x : TypeCell) (cells′ : List TypeCell) (measures′ : List Measure) → cells′ ≡ cells ++ (x ∷ []) → measures′ ≡ measures ++ (measureAt measures x ∷ []) → HeightsOf cells′ measures′
+  heights-more x cells′ measures′ e f k A d = ap (λ ms. getD ms k number .height) f ∙ ap (λ m. m .height) (measured-more x k A (subst (λ cs. DenotesType cs k A) e d))
+
+  pub naturals-more : (x : TypeCell) (cells′ : List TypeCell) (measures′ : List Measure) → cells′ ≡ cells ++ (x ∷ []) → measures′ ≡ measures ++ (measureAt measures x ∷ []) → NaturalsOf cells′ measures′
+  naturals-more x cells′ measures′ e f k A d = ap (λ ms. getD ms k number .naturals) f ∙ ap (λ m. m .naturals) (measured-more x k A (subst (λ cs. DenotesType cs k A) e d))
+
+-- no cell, no type
+pub nothing : (cells : List TypeCell) → cells ≡ [] → (k : ℕ) (A : Ty) → DenotesType cells k A → ⊥
+nothing cells e k A d = let h : k < length {A = TypeCell} [] = subst (λ cs. k < length cs) e (inside A cells k d) in omega arith
