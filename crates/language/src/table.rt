@@ -5,10 +5,13 @@ ghost use Prim.Native.Nat.{ℕ, _+_, _<_, _≤_};
 ghost use lib.ListN.{length, getD};
 ghost use Rattle.std.specs.Of.Vec.{vec-items, vec-len, vec-cap};
 ghost use Rattle.std.specs.Vec.{made};
-ghost use Rattle.language.specs.Measures.{typeRoom, number, HeightsOf, NaturalsOf};
+ghost use Rattle.syntax.specs.declared.program.TypeCell.the-variants.{N};
+ghost use Rattle.language.specs.Measures.{typeRoom, number, HeightsOf, NaturalsOf, IsType, SameTypes};
 use crate::measure::Measure;
+use crate::types::cell_at;
 use crate::types::measure_of;
 use crate::types::measured;
+use crate::types::same;
 use std::alloc::AllocError;
 use std::alloc::Global;
 use syntax::program::TypeCell;
@@ -60,5 +63,20 @@ impl TypeTable {
         ensures { λ r. ⌜ r ≡ getD (vec-items (now (self .entry) .measures)) i number .height ⌝ }
     {
         measure_of(&self.measures, i).height
+    }
+
+    pub fn cell(&self, i: usize) -> TypeCell
+        requires { ⌜ IsType (vec-items (now self .cells)) i ⌝ }
+        ensures { λ r. ⌜ getD (vec-items (now (self .entry) .cells)) i N ≡ r ⌝ }
+    {
+        cell_at(&self.cells, i)
+    }
+
+    pub fn same(&self, i: usize, j: usize) -> bool
+        requires left { ⌜ IsType (vec-items (now self .cells)) i ⌝ }
+        requires right { ⌜ IsType (vec-items (now self .cells)) j ⌝ }
+        ensures { λ r. ⌜ SameTypes (vec-items (now (self .entry) .cells)) i j r ⌝ }
+    {
+        same(&self.cells, i, j)
     }
 }
