@@ -79,13 +79,12 @@ pub record Ready (subs : List Subterm) (i : ℕ) (m : Checker) : Type 0 where
   pub typing-room : length (typingsOf m) + subterms (erase tree) ≤ 2048
   pub context-room : length (contextOf m) + 2 * subterms (erase tree) ≤ 4096
 
--- n sub-terms were checked: a typing for each and at most as many cells were added, and all else is as it was
+-- at most n cells and these typings were added, and all else is as it was
 pub record Grown (n : ℕ) (new : List Typing) (m m′ : Checker) : Type 0 where
   pub more : List TypeCell
   pub cells : cellsOf m′ ≡ cellsOf m ++ more
   pub few : length more ≤ n
   pub typings : typingsOf m′ ≡ typingsOf m ++ new
-  pub many : length new ≡ n
   pub context : contextOf m′ ≡ contextOf m
   pub number : m′ .number ≡ m .number
 
