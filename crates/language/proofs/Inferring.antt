@@ -101,3 +101,40 @@ inferred e (iter p t u v) A h =
     let n = then-good (infer e u) (λ F. then (infer e v) (iterRule p (m .0) F)) A (m .2) in
     let q = then-good (infer e v) (iterRule p (m .0) (n .0)) A (n .2) in
     iter-good p (m .0) (n .0) (q .0) A (q .2) ∙ inferred e v (q .0) (q .1)
+
+-- the answer for a whole, from those for its parts
+pub succ-at : (e : Env) (p : ℕ) (t : Tree ℕ) (x : Checked) → infer e t ≡ x → infer e (succ p t) ≡ then x (succRule p)
+unfolding infer
+succ-at e p t x h = ap (λ y. then y (succRule p)) h
+
+pub lam-at : (e : Env) (p : ℕ) (v : Binder) (T : Ty) (t : Tree ℕ) (x : Checked) → infer (put e (v .place) T) t ≡ x → infer e (lam p v T t) ≡ then x (λ U. within p (T ⇒ U))
+unfolding infer
+lam-at e p v T t x h = ap (λ y. then y (λ U. within p (T ⇒ U))) h
+
+pub app-at : (e : Env) (p : ℕ) (t u : Tree ℕ) (x y : Checked) → infer e t ≡ x → infer e u ≡ y → infer e (app p t u) ≡ then x (λ F. then y (appRule p F))
+unfolding infer
+app-at e p t u x y h g = ap (λ z. then z (λ F. then (infer e u) (appRule p F))) h ∙ ap (λ z. then x (λ F. then z (appRule p F))) g
+
+pub pair-at : (e : Env) (p : ℕ) (t u : Tree ℕ) (x y : Checked) → infer e t ≡ x → infer e u ≡ y → infer e (pair p t u) ≡ then x (λ A. then y (λ B. within p (A ⊗ B)))
+unfolding infer
+pair-at e p t u x y h g = ap (λ z. then z (λ A. then (infer e u) (λ B. within p (A ⊗ B)))) h ∙ ap (λ z. then x (λ A. then z (λ B. within p (A ⊗ B)))) g
+
+pub split-at : (e : Env) (p : ℕ) (v w : Binder) (t u : Tree ℕ) (x : Checked) → infer e t ≡ x → infer e (split p v w t u) ≡ then x (splitRule p (λ A B. then (infer (put (put e (v .place) A) (w .place) B) u) (within p)))
+unfolding infer
+split-at e p v w t u x h = ap (λ z. then z (splitRule p (λ A B. then (infer (put (put e (v .place) A) (w .place) B) u) (within p)))) h
+
+pub split-body : (e : Env) (p : ℕ) (v w : Binder) (t u : Tree ℕ) (A B : Ty) (y : Checked) → infer e t ≡ good (A ⊗ B) → infer (put (put e (v .place) A) (w .place) B) u ≡ y → infer e (split p v w t u) ≡ then y (within p)
+split-body e p v w t u A B y h g = split-at e p v w t u (good (A ⊗ B)) h ∙ ap (λ z. then z (within p)) g
+
+pub iter-at : (e : Env) (p : ℕ) (t u v : Tree ℕ) (x y z : Checked) → infer e t ≡ x → infer e u ≡ y → infer e v ≡ z → infer e (iter p t u v) ≡ then x (λ A. then y (λ F. then z (iterRule p A F)))
+unfolding infer
+iter-at e p t u v x y z h g k =
+    ap (λ a. then a (λ A. then (infer e u) (λ F. then (infer e v) (iterRule p A F)))) h ∙ (ap (λ a. then x (λ A. then a (λ F. then (infer e v) (iterRule p A F)))) g ∙ ap (λ a. then x (λ A. then y (λ F. then a (iterRule p A F)))) k)
+
+pub occ-at : (e : Env) (p b : ℕ) → infer e (occ p b) ≡ within p (e b)
+unfolding infer
+occ-at e p b = refl
+
+pub num-at : (e : Env) (p n : ℕ) → infer e (num p n) ≡ within p N
+unfolding infer
+num-at e p n = refl

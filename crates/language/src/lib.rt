@@ -1,5 +1,5 @@
 // From text to checked program: what a text must be to be accepted, and what it is refused with else.
-//pub mod check;
+pub mod check;
 pub mod checker;
 pub mod measure;
 pub mod table;
