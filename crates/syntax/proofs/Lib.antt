@@ -1,1 +1,4 @@
 pub mod Examples
+pub mod Lexing
+pub mod Scanning
+pub mod TypeSteps
