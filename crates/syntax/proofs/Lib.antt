@@ -2,3 +2,4 @@ pub mod Examples
 pub mod Lexing
 pub mod Scanning
 pub mod TypeSteps
+pub mod NameSteps
