@@ -31,7 +31,7 @@ fn ill_typed(place: usize) -> Refusal
     }
 }
 
-fn subterm_at(subs: &[Subterm], i: usize) -> Subterm
+pub fn subterm_at(subs: &[Subterm], i: usize) -> Subterm
     requires { ⌜ i < length (now subs) ⌝ }
     ensures { λ r. ⌜ getD (now (subs .entry)) i (record { place = 0; shape = Number 0 }) ≡ r ⌝ }
 {
@@ -59,7 +59,7 @@ impl Checker {
         ensures agrees { λ r. ⌜ ((A : Ty) → DenotesType (cellsOf (now (self .entry))) cell A → Agrees (cellsOf (now (self .entry))) r (within place A)) ⌝ }
         ensures noted { λ r. ⌜ Noted subterm (now (self .entry)) (now (self .exit)) r ⌝ }
     {
-        if self.types.height(cell) > HIGHEST {
+        if self.types.measure(cell).height > HIGHEST {
             return Err(Refusal {
                 fault: Fault::HighType,
                 place,
