@@ -4,5 +4,6 @@ pub mod checker;
 pub mod counts;
 pub mod facts;
 pub mod measure;
+pub mod program;
 pub mod table;
 pub mod types;
