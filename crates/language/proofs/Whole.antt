@@ -21,7 +21,7 @@ use Rattle.syntax.specs.declared.program.Subterm.{Subterm}
 use Rattle.syntax.specs.declared.refusal.Refusal.{Refusal}
 use Rattle.syntax.specs.declared.refusal.Fault.the-variants.{NoNumber, ManyIterators}
 use Rattle.language.specs.declared.checker.Checker.{Checker}
-use Rattle.language.specs.declared.checker.Typing.{Typing}
+use Rattle.language.specs.declared.typing.Typing.{Typing}
 use Rattle.language.specs.declared.counts.Facts.{Facts}
 use Rattle.language.specs.Infer.{good, bad, infer}
 use Rattle.language.specs.Measures.{typeRoom, IsType}

@@ -18,7 +18,7 @@ use Rattle.syntax.specs.Trees.{Tree, erase}
 use Rattle.syntax.specs.Program.{Denotes}
 use Rattle.syntax.specs.Names.{fault}
 use Rattle.syntax.specs.Reads.{reads}
-use Rattle.language.specs.declared.checker.Typing.{Typing}
+use Rattle.language.specs.declared.typing.Typing.{Typing}
 use Rattle.language.specs.declared.counts.Facts.{Facts}
 use Rattle.language.specs.Infer.{Checked, good, bad, infer}
 use Rattle.language.specs.Judgements.{judgements, nobody, sum, share, highest}
