@@ -25,9 +25,10 @@ use Rattle.syntax.specs.Parse.{Out, got, refused, whole}
 use Rattle.syntax.specs.Names.{resolve, fault, nameFault}
 use Rattle.syntax.specs.Reads.{orFault, named, reads}
 use Rattle.language.specs.Infer.{Checked, good, bad, infer}
+use Rattle.language.specs.Judgements.{nobody}
+use Rattle.language.specs.Accepts.{numbered, typed, accepts as answers}
 use Rattle.grammar.specs.Derivations.{Derives, given}
 use Rattle.grammar.specs.Naming.{WellNamed}
-use Rattle.grammar.specs.Answers.{nobody, typed, asked, answers}
 use Rattle.grammar.specs.Exactness.{Accepted, AcceptedExactly, One, AcceptedOne, Named, Rejected, too-long, unread, misnamed, untyped, no-number, many-iterators, RejectedRightly}
 use Rattle.grammar.proofs.Contexts.{linear, keys-free}
 use Rattle.grammar.proofs.Unique.{unique}
@@ -65,13 +66,13 @@ few-enough : (text : List ℕ) (t : Tree Name) → Named text t → Derives [] (
 few-enough text t n d true e = accepts t (record { short = n .short; spelled = n .spelled; within = n .within; once = n .named .once; derived = d; few = leb-true (iterators (erase (resolve [] t))) 64 e })
 few-enough text t n d false e = refuses (many-iterators t n d (leb-false (iterators (erase (resolve [] t))) 64 e))
 
-answer-types : (text : List ℕ) (t : Tree Name) → Named text t → (c : Checked) → infer nobody (resolve [] t) ≡ c → Answered text (typed (resolve [] t) c)
+answer-types : (text : List ℕ) (t : Tree Name) → Named text t → (c : Checked) → infer nobody (resolve [] t) ≡ c → Answered text (numbered (resolve [] t) c)
 answer-types text t n (bad f p) e = refuses (untyped t n (first nobody (resolve [] t) f p (n .named .linear) .0 e))
 answer-types text t n (good N) e = few-enough text t n (in-nothing t N (n .named) e) (leb (iterators (erase (resolve [] t))) 64) refl
 answer-types text t n (good (A ⇒ B)) e = refuses (no-number t n (in-nothing t (A ⇒ B) (n .named) e) (λ h. let z : _≡_ {A = ℕ} 0 1 = cc in omega arith))
 answer-types text t n (good (A ⊗ B)) e = refuses (no-number t n (in-nothing t (A ⊗ B) (n .named) e) (λ h. let z : _≡_ {A = ℕ} 0 1 = cc in omega arith))
 
-answer-read : (text : List ℕ) (o : Result (Tree ℕ) Refusal) → ReadAs text o → Answered text (asked o)
+answer-read : (text : List ℕ) (o : Result (Tree ℕ) Refusal) → ReadAs text o → Answered text (typed o)
 answer-read text o (rejects r) = refuses r
 answer-read text o (names t n) = answer-types text t n (infer nobody (resolve [] t)) refl
 
@@ -95,8 +96,8 @@ accepted-answers text t a =
         ap (λ b. cond b (named (whole (length text) (signsOf text))) (Err (fault TooLong 0))) (le-leb (length text) 16384 (a .short))
           ∙ ap named (complete (length text) (signsOf text) t (a .spelled) (a .within))
           ∙ ap (orFault t) (right text t (a .spelled) .1 w) in
-    ap asked x
-      ∙ ap (typed (resolve [] t)) (derived nobody (resolve [] t) [] N tt d)
+    ap typed x
+      ∙ ap (numbered (resolve [] t)) (derived nobody (resolve [] t) [] N tt d)
       ∙ ap (λ b. cond b (Ok (resolve [] t)) (Err (fault ManyIterators 0))) (le-leb (iterators (erase (resolve [] t))) 64 (a .few))
 
 pub exactly : AcceptedExactly

@@ -10,14 +10,14 @@ use Rattle.syntax.specs.Trees.{Name, Tree, num, occ, succ, lam, app, pair, spli
 use Rattle.syntax.specs.Signs.{lex}
 use Rattle.syntax.specs.Parse.{type, term}
 use Rattle.language.specs.Infer.{infer}
-use Rattle.language.specs.Judgements.{judgements, sum, share}
-use Rattle.grammar.specs.Answers.{nobody, answers}
+use Rattle.language.specs.Judgements.{judgements, sum, share, nobody}
+use Rattle.language.specs.Accepts.{accepts}
 use Rattle.grammar.specs.Examples.{Weighs, KnownAnswers}
 use Rattle.grammar.proofs.Unique.{sums}
 use Rattle.grammar.proofs.Exact.{exactly}
 
 -- an accepted text has the weight of its sub-terms
-weighs : (text : List ℕ) (t : Tree ℕ) (n : ℕ) → answers text ≡ Ok t → sum share (judgements nobody t) ≡ n → Weighs text n
+weighs : (text : List ℕ) (t : Tree ℕ) (n : ℕ) → accepts text ≡ Ok t → sum share (judgements nobody t) ≡ n → Weighs text n
 weighs text t n a s =
     let e = exactly text t .0 a in
     record {
