@@ -13,3 +13,4 @@ mod Naming
 mod Exact
 mod Known
 mod Dividing
+mod Refusals

@@ -169,12 +169,12 @@ sooner-some : (f : Refusal) (o : Option Refusal) → sooner f o ≡ None → ⊥
 sooner-some f None h = let z : _≡_ {A = ℕ} 0 1 = cc in omega arith
 sooner-some f (Some g) h = let z : _≡_ {A = ℕ} 0 1 = cc in omega arith
 
-no-least : (fs : List Refusal) → (least fs ≡ None) ↔ (fs ≡ [])
+pub no-least : (fs : List Refusal) → (least fs ≡ None) ↔ (fs ≡ [])
 no-least [] = (λ h. refl, λ h. refl)
 no-least (f ∷ fs) = (λ h. absurd (sooner-some f (least fs) h), λ h. let z : _≡_ {A = ℕ} 0 1 = cc in absurd (omega arith))
 
 -- a fault that does not go before another, by its place and number
-behind : (g f : Refusal) → before g f ≡ false → (f .place < g .place) ⊎ ((f .place ≡ g .place) × (number (f .fault) ≤ number (g .fault)))
+pub behind : (g f : Refusal) → before g f ≡ false → (f .place < g .place) ⊎ ((f .place ≡ g .place) × (number (f .fault) ≤ number (g .fault)))
 behind g f h = grind (arith, tells)
 
 not-before : (g f : Refusal) → (f .place < g .place) ⊎ ((f .place ≡ g .place) × (number (f .fault) ≤ number (g .fault))) → before g f ≡ false

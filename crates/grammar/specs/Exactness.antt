@@ -59,5 +59,5 @@ pub data Rejected (text : List ℕ) : Refusal → Type 0 where
   no-number : {A : Ty} (t : Tree Name) → Named text t → Derives [] (erase (resolve [] t)) A → (A ≡ N → ⊥) → Rejected text (fault NoNumber 0)
   many-iterators : (t : Tree Name) → Named text t → Derives [] (erase (resolve [] t)) N → 64 < iterators (erase (resolve [] t)) → Rejected text (fault ManyIterators 0)
 
-abbrev pub RejectedRightly : Type 0
-RejectedRightly = (text : List ℕ) (f : Refusal) → accepts text ≡ Err f → Rejected text f
+abbrev pub RejectedExactly : Type 0
+RejectedExactly = (text : List ℕ) (f : Refusal) → (accepts text ≡ Err f) ↔ Rejected text f

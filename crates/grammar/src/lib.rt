@@ -2,7 +2,7 @@
 ghost use Rattle.grammar.specs.Reading.{ReadSpelled, SpelledRead, Unambiguous, RefusedRightly};
 ghost use Rattle.grammar.specs.Naming.{NamesRight, NamesLeast};
 ghost use Rattle.grammar.specs.Dividing.{DividedExactly};
-ghost use Rattle.grammar.specs.Exactness.{AcceptedExactly, AcceptedOne, RejectedRightly};
+ghost use Rattle.grammar.specs.Exactness.{AcceptedExactly, AcceptedOne, RejectedExactly};
 ghost use Rattle.grammar.specs.Examples.{KnownAnswers};
 ghost use Rattle.grammar.specs.Typings.{InferredDerived, DerivedInferred, DerivedLinear, FirstFault, UniqueTypes, SumsDerived};
 
@@ -45,7 +45,7 @@ pub fn types_inferred_exactly()
 pub fn texts_accepted_exactly()
     ensures exactly { λ _. ⌜ AcceptedExactly ⌝ }
     ensures one { λ _. ⌜ AcceptedOne ⌝ }
-    ensures rejected { λ _. ⌜ RejectedRightly ⌝ }
+    ensures rejected { λ _. ⌜ RejectedExactly ⌝ }
 {
 }
 
