@@ -14,3 +14,4 @@ mod Exact
 mod Known
 mod Dividing
 mod Refusals
+mod Verdicts

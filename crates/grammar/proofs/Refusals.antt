@@ -174,11 +174,13 @@ numbered HighType = refl
 numbered FewCells = refl
 numbered ManyIterators = refl
 
+same-refusal : (f g : Refusal) → f .fault ≡ g .fault → f .place ≡ g .place → f ≡ g
+same-refusal f g s p = ap (λ z. record { fault = z; place = f .place }) s ∙ ap (λ z. record { fault = g .fault; place = z }) p
+
 pub least-once : (f g : Refusal) (fs : List Refusal) → Least f fs → Least g fs → f ≡ g
 least-once f g fs x y =
     let a = behind g f (x .first g (y .among)) in
     let b = behind f g (y .first f (x .among)) in
     let p : f .place ≡ g .place = grind (arith, a, b) in
     let n : number (f .fault) ≡ number (g .fault) = grind (arith, a, b) in
-    let s : f .fault ≡ g .fault = sym (numbered (f .fault)) ∙ ap byNumber n ∙ numbered (g .fault) in
-    ap (λ z. record { fault = z; place = f .place }) s ∙ ap (λ z. record { fault = g .fault; place = z }) p
+    same-refusal f g (sym (numbered (f .fault)) ∙ ap byNumber n ∙ numbered (g .fault)) p

@@ -75,6 +75,16 @@ take-move i K vs p x s μ e f =
     let t : Taken i K vs p x s (h .move) = record { values = h .values; fills = h .fills; makes = h .makes; sorts = ap (allRoles (i ∷ K)) (sym (h .makes)) ∙ backwards i x (h .move) (h .predicted) .sorts p K (h .values) } in
     subst (Taken i K vs p x s) (let w : h .move ≡ μ = cc in w) t
 
+-- one role for each sign
+pub as-long : (s : List Placed) (K : List Item) (vs : Vals K) → Fills K vs s → length (allRoles K vs) ≡ length s
+as-long [] [] vs f = refl
+as-long [] (i ∷ K) vs f = absurd (not-empty i K vs f)
+as-long ((p, x) ∷ s) [] vs f = let z : _≡_ {A = ℕ} 0 1 = cc in absurd (omega arith)
+as-long ((p, x) ∷ s) (i ∷ K) vs f =
+    let h = forwards i K vs p x s f in
+    let t = take-move i K vs p x s (h .move) (h .predicted) f in
+    ap length (t .sorts) ∙ ap suc (as-long s (h .move .rest ++ K) (t .values) (t .fills))
+
 module _ (check : Check) (end : ℕ) where
   pub accepts : (s : List Placed) (K : List Item) (vs : Vals K) (n m a b : ℕ) → Fills K vs s → Leads check n m (allRoles K vs) a b → run check end s K n m ≡ done vs
   accepts [] [] vs n m a b f l = refl

@@ -14,9 +14,9 @@ use Rattle.syntax.specs.Signs.{Sign, Placed}
 use Rattle.syntax.specs.Grammar.{Stands, Within}
 use Rattle.syntax.specs.Parse.{Out, got, refused, andThen, term, last, whole}
 use Rattle.grammar.specs.Roles.{Role, roles, Kept, Broken}
-use Rattle.grammar.specs.Reading.{Read, ReadSpelled, SpelledRead, Unambiguous, Begins, KeptBefore, Misplaced, Passes, Refused, misplaced, passes, RefusedRightly}
+use Rattle.grammar.specs.Reading.{RolesFit, ReadSpelled, SpelledRead, Unambiguous, Begins, KeptBefore, Misplaced, Passes, Refused, misplaced, passes, RefusedRightly}
 use Rattle.grammar.proofs.Machine.{Item, aTerm, Vals, Fills, allRoles}
-use Rattle.grammar.proofs.Runs.{Checks, Check, Outcome, done, stop, mapped, run, Leads, accepts, Accepted, accepted, Wrong, Limit, Halted, halted}
+use Rattle.grammar.proofs.Runs.{Checks, Check, Outcome, done, stop, mapped, run, Leads, as-long, accepts, accepted, Halted, halted}
 use Rattle.grammar.proofs.Runs as runs
 use Rattle.grammar.proofs.Simulation.{limits, handle, step-then, sim-term}
 use Rattle.grammar.proofs.Limits.{within-kept, kept-within, KeptFrom, Counted, leads-kept, kept-leads, kept-from, from-kept, breaks}
@@ -62,6 +62,9 @@ filled t s h = ([], h, refl)
 
 goal-roles : (t : Tree Name) → allRoles goal (t, tt) ≡ roles 1 t
 goal-roles t = append-nil (roles 1 t)
+
+pub fit : RolesFit
+fit s t h = (ap length (sym (goal-roles t)) ∙ as-long s goal (t, tt) (filled t s h), (kept-within t, within-kept t))
 
 pub sound : ReadSpelled
 sound end s t r h =

@@ -8,3 +8,4 @@ pub mod Naming
 pub mod Exactness
 pub mod Examples
 pub mod Dividing
+pub mod Verdicts

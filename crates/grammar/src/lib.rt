@@ -1,5 +1,5 @@
 // The theorems above reading and checking: what is accepted is what the grammar spells and the linear typing rules derive.
-ghost use Rattle.grammar.specs.Reading.{ReadSpelled, SpelledRead, Unambiguous, RefusedRightly};
+ghost use Rattle.grammar.specs.Reading.{RolesFit, ReadSpelled, SpelledRead, Unambiguous, RefusedRightly};
 ghost use Rattle.grammar.specs.Naming.{NamesRight, NamesLeast};
 ghost use Rattle.grammar.specs.Dividing.{DividedExactly};
 ghost use Rattle.grammar.specs.Exactness.{AcceptedExactly, AcceptedOne, RejectedExactly};
@@ -14,6 +14,7 @@ pub fn texts_divided_exactly()
 
 // Signs are read exactly as the grammar spells terms within the limits, and a refusal stands at the right sign.
 pub fn signs_read_exactly()
+    ensures roles { λ _. ⌜ RolesFit ⌝ }
     ensures sound { λ _. ⌜ ReadSpelled ⌝ }
     ensures complete { λ _. ⌜ SpelledRead ⌝ }
     ensures unambiguous { λ _. ⌜ Unambiguous ⌝ }
