@@ -93,7 +93,7 @@ from-err text o f (accepts t a) e = let z : _≡_ {A = ℕ} 0 1 = cc in absurd (
 reads-named : (text : List ℕ) (t : Tree Name) → length text ≤ 16384 → Spells text t → Within t → reads text ≡ orFault t (nameFault t)
 reads-named text t l s w =
     ap (λ b. cond b (named (whole (length text) (signsOf text))) (Err (fault TooLong 0))) (le-leb (length text) 16384 l)
-      ∙ ap named (complete (length text) (signsOf text) t s w)
+    ∙ ap named (complete (length text) (signsOf text) t s w)
 
 reads-term : (text : List ℕ) (t : Tree Name) → Named text t → reads text ≡ Ok (resolve [] t)
 reads-term text t n = reads-named text t (n .short) (n .spelled) (n .within) ∙ ap (orFault t) (right text t (n .spelled) .1 (n .named))
@@ -105,8 +105,8 @@ accepted-answers text t a =
     let w : WellNamed t = record { once = a .once; linear = linear (d .derived); closed = sym (keys-free (d .derived)) } in
     let n : Named text t = record { short = a .short; spelled = a .spelled; within = a .within; named = w } in
     ap typed (reads-term text t n)
-      ∙ ap (numbered (resolve [] t)) (derived nobody (resolve [] t) [] N tt d)
-      ∙ ap (λ b. cond b (Ok (resolve [] t)) (Err (fault ManyIterators 0))) (le-leb (iterators (erase (resolve [] t))) 64 (a .few))
+    ∙ ap (numbered (resolve [] t)) (derived nobody (resolve [] t) [] N tt d)
+    ∙ ap (λ b. cond b (Ok (resolve [] t)) (Err (fault ManyIterators 0))) (le-leb (iterators (erase (resolve [] t))) 64 (a .few))
 
 pub exactly : AcceptedExactly
 exactly text r = (λ h. from-ok text (answers text) r (answered text) h, λ h. accepted-answers text (h .0) (h .1) ∙ ap Ok (h .2))
@@ -132,13 +132,13 @@ rejected-answers : (text : List ℕ) (f : Refusal) → Rejected text f → answe
 rejected-answers text f (too-long l) = ap (λ b. typed (cond b (named (whole (length text) (signsOf text))) (Err (fault TooLong 0)))) (lt-leb (length text) 16384 l)
 rejected-answers text f (unread l r) =
     ap (λ b. typed (cond b (named (whole (length text) (signsOf text))) (Err (fault TooLong 0)))) (le-leb (length text) 16384 l)
-      ∙ ap typed (out-refused text f (whole (length text) (signsOf text)) refl r)
+    ∙ ap typed (out-refused text f (whole (length text) (signsOf text)) refl r)
 rejected-answers text f (misnamed t l s w m) = ap typed (reads-named text t l s w ∙ least-fault t f (nameFault t) refl m)
 rejected-answers text f (untyped {f = g} {p = p} t n i) = ap typed (reads-term text t n) ∙ ap (numbered (resolve [] t)) (first nobody (resolve [] t) g p (n .named .linear) .1 i)
 rejected-answers text f (no-number {A = A} t n d z) = ap typed (reads-term text t n) ∙ ap (numbered (resolve [] t)) (derived nobody (resolve [] t) [] A tt d) ∙ no-number-answer (resolve [] t) A z
 rejected-answers text f (many-iterators t n d l) =
     ap typed (reads-term text t n) ∙ ap (numbered (resolve [] t)) (derived nobody (resolve [] t) [] N tt d)
-      ∙ ap (λ b. cond b (Ok (resolve [] t)) (Err (fault ManyIterators 0))) (lt-leb (iterators (erase (resolve [] t))) 64 l)
+    ∙ ap (λ b. cond b (Ok (resolve [] t)) (Err (fault ManyIterators 0))) (lt-leb (iterators (erase (resolve [] t))) 64 l)
 
 pub rejected : RejectedExactly
 rejected text f = (λ h. from-err text (answers text) f (answered text) h, λ h. rejected-answers text f h)

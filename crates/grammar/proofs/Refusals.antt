@@ -83,6 +83,7 @@ misplaced-once end s p q m n h = by (r .between) (r .longer) (r .rest)
   where
     r : Between (m .front) (m .rest) (n .front) (n .rest)
     r = cut (m .front) (m .rest) (n .front) (n .rest) (sym (m .is) ∙ n .is) h
+
     by : (b : List Placed) → n .front ≡ m .front ++ b → m .rest ≡ b ++ n .rest → p ≡ q
     by [] l e = m .place ∙ ap (placeOfNext end) e ∙ sym (n .place)
     by ((o, x) ∷ b) l e =
@@ -95,8 +96,10 @@ misplaced-later end s p q f m n h = by (r .between) (r .longer) (r .rest)
   where
     r : Between (m .front) (m .rest) (n .front) ((q, n .sign) ∷ n .rest)
     r = cut (m .front) (m .rest) (n .front) ((q, n .sign) ∷ n .rest) (sym (m .is) ∙ n .is) h
+
     at : (t : Tree Name) (y b : List Placed) → n .front ≡ m .front ++ b → Stands t ((n .front ++ ((q, n .sign) ∷ [])) ++ y) [] → Stands t (m .front ++ (b ++ ((q, n .sign) ∷ y))) []
     at t y b l st = subst (λ z. Stands t z []) (append-assoc (n .front) ((q, n .sign) ∷ []) y ∙ ap (λ z. z ++ ((q, n .sign) ∷ y)) l ∙ append-assoc (m .front) b ((q, n .sign) ∷ y)) st
+
     by : (b : List Placed) → n .front ≡ m .front ++ b → m .rest ≡ b ++ ((q, n .sign) ∷ n .rest) → ⊥
     by [] l e = let (y, t, st) = n .begins in no-further end s p m q (n .sign) (n .rest) y t e (at t y [] l st)
     by ((o, x) ∷ b) l e = let (y, t, st) = n .begins in no-further end s p m o x (b ++ ((q, n .sign) ∷ n .rest)) (b ++ ((q, n .sign) ∷ y)) t e (at t y ((o, x) ∷ b) l st)
@@ -107,6 +110,7 @@ passes-later s q f n front rest is kept y t st h = by (r .between) (r .longer) (
   where
     r : Between (n .front) ((q, n .sign) ∷ n .rest) front rest
     r = cut (n .front) ((q, n .sign) ∷ n .rest) front rest (sym (n .is) ∙ is) (omega arith)
+
     by : (b : List Placed) → front ≡ n .front ++ b → (q, n .sign) ∷ n .rest ≡ b ++ rest → ⊥
     by [] l e = (let w = ap length l in let v = length-append (n .front) [] in omega arith)
     by ((o, x) ∷ b) l e =
@@ -119,6 +123,7 @@ passes-once s p q f g m n h = by (r .between) (r .longer) (r .rest)
   where
     r : Between (m .front) ((p, m .sign) ∷ m .rest) (n .front) ((q, n .sign) ∷ n .rest)
     r = cut (m .front) ((p, m .sign) ∷ m .rest) (n .front) ((q, n .sign) ∷ n .rest) (sym (m .is) ∙ n .is) (omega arith)
+
     by : (b : List Placed) → n .front ≡ m .front ++ b → (p, m .sign) ∷ m .rest ≡ b ++ ((q, n .sign) ∷ n .rest) → (f ≡ g) × (p ≡ q)
     by (o ∷ b) l e = absurd (let w = ap length l in let v = length-append (m .front) (o ∷ b) in omega arith)
     by [] l e =
@@ -132,19 +137,24 @@ passes-once s p q f g m n h = by (r .between) (r .longer) (r .rest)
 
 pub refused-once : {end : ℕ} {s : List Placed} {f g : Refusal} → Refused end s f → Refused end s g → f ≡ g
 refused-once {end} {s} (misplaced {p = p} m) (misplaced {p = q} n) = ap (λ k. record { fault = WrongSign; place = k }) (elim (cases-order (length (m .front)) (length (n .front))) [
-    inl e ↦ misplaced-once end s p q m n (omega arith)
-  | inr e ↦ elim e [ inl k ↦ misplaced-once end s p q m n (omega arith) | inr k ↦ sym (misplaced-once end s q p n m (omega arith)) ] ])
+  | inl e ↦ misplaced-once end s p q m n (omega arith)
+  | inr e ↦ elim e [ inl k ↦ misplaced-once end s p q m n (omega arith) | inr k ↦ sym (misplaced-once end s q p n m (omega arith)) ]
+])
 refused-once {end} {s} (misplaced {p = p} m) (passes {f = g} {p = q} n) = absurd (elim (cases-order (length (m .front)) (length (n .front))) [
-    inl e ↦ misplaced-later end s p q g m n (omega arith)
-  | inr e ↦ elim e [ inl k ↦ misplaced-later end s p q g m n (omega arith) | inr k ↦ (let (y, t, st) = m .begins in passes-later s q g n (m .front) (m .rest) (m .is) (m .kept) y t st k) ] ])
+  | inl e ↦ misplaced-later end s p q g m n (omega arith)
+  | inr e ↦ elim e [ inl k ↦ misplaced-later end s p q g m n (omega arith) | inr k ↦ (let (y, t, st) = m .begins in passes-later s q g n (m .front) (m .rest) (m .is) (m .kept) y t st k) ]
+])
 refused-once {end} {s} (passes {f = f} {p = p} m) (misplaced {p = q} n) = absurd (elim (cases-order (length (n .front)) (length (m .front))) [
-    inl e ↦ misplaced-later end s q p f n m (omega arith)
-  | inr e ↦ elim e [ inl k ↦ misplaced-later end s q p f n m (omega arith) | inr k ↦ (let (y, t, st) = n .begins in passes-later s p f m (n .front) (n .rest) (n .is) (n .kept) y t st k) ] ])
+  | inl e ↦ misplaced-later end s q p f n m (omega arith)
+  | inr e ↦ elim e [ inl k ↦ misplaced-later end s q p f n m (omega arith) | inr k ↦ (let (y, t, st) = n .begins in passes-later s p f m (n .front) (n .rest) (n .is) (n .kept) y t st k) ]
+])
 refused-once {end} {s} (passes {f = f} {p = p} m) (passes {f = g} {p = q} n) = elim (cases-order (length (m .front)) (length (n .front))) [
-    inl e ↦ (let r = passes-once s p q f g m n e in ap (λ k. record { fault = k; place = p }) (r .0) ∙ ap (λ k. record { fault = g; place = k }) (r .1))
+  | inl e ↦ (let r = passes-once s p q f g m n e in ap (λ k. record { fault = k; place = p }) (r .0) ∙ ap (λ k. record { fault = g; place = k }) (r .1))
   | inr e ↦ elim e [
-      inl k ↦ (let (y, t, st) = n .begins in absurd (passes-later s p f m (n .front) ((q, n .sign) ∷ n .rest) (n .is) (n .kept) ((q, n .sign) ∷ y) t (subst (λ z. Stands t z []) (append-assoc (n .front) ((q, n .sign) ∷ []) y) st) k))
-    | inr k ↦ (let (y, t, st) = m .begins in absurd (passes-later s q g n (m .front) ((p, m .sign) ∷ m .rest) (m .is) (m .kept) ((p, m .sign) ∷ y) t (subst (λ z. Stands t z []) (append-assoc (m .front) ((p, m .sign) ∷ []) y) st) k)) ] ]
+    | inl k ↦ (let (y, t, st) = n .begins in absurd (passes-later s p f m (n .front) ((q, n .sign) ∷ n .rest) (n .is) (n .kept) ((q, n .sign) ∷ y) t (subst (λ z. Stands t z []) (append-assoc (n .front) ((q, n .sign) ∷ []) y) st) k))
+    | inr k ↦ (let (y, t, st) = m .begins in absurd (passes-later s q g n (m .front) ((p, m .sign) ∷ m .rest) (m .is) (m .kept) ((p, m .sign) ∷ y) t (subst (λ z. Stands t z []) (append-assoc (m .front) ((p, m .sign) ∷ []) y) st) k))
+  ]
+]
 
 -- and no term within the limits is spelled then
 same-next : (r : List Placed) → SameNext r r

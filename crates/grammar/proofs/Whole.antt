@@ -122,9 +122,11 @@ rightly end s f h =
     let c = leads-kept (d .trace) 0 0 (d .a) (d .b) (omega arith) (omega arith) (d .leads) in
     let kept = kept-before end s f d c in
     elim (d .why) [
-      inl w ↦ subst (λ z. Refused end s (record { fault = z; place = f .place })) (sym (w .fault)) (misplaced (record { front = d .front; rest = d .rest; is = d .is; place = w .place; begins = begins-some (d .front) (d .goes); kept = kept; stuck = λ y t n st. w .stuck y (t, tt) n (filled t (d .front ++ y) st) }))
-    | inr w ↦ passes (record {
-        front = d .front; sign = w .sign; rest = w .more;
+      | inl w ↦ subst (λ z. Refused end s (record { fault = z; place = f .place })) (sym (w .fault)) (misplaced (record { front = d .front; rest = d .rest; is = d .is; place = w .place; begins = begins-some (d .front) (d .goes); kept = kept; stuck = λ y t n st. w .stuck y (t, tt) n (filled t (d .front ++ y) st) }))
+      | inr w ↦ passes (record {
+        front = d .front;
+        sign = w .sign;
+        rest = w .more;
         is = d .is ∙ ap (λ z. d .front ++ z) (w .is);
         begins = (let g = w .goes in begins-some (d .front ++ ((f .place, w .sign) ∷ [])) (g .0, g .1, subst (Fills goal (g .1)) (sym (append-assoc (d .front) ((f .place, w .sign) ∷ []) (g .0))) (g .2)));
         kept = kept;
@@ -135,4 +137,5 @@ rightly end s f h =
             let n : suc (length (d .front)) ≡ length l = ap suc (sym (d .long)) ∙ one-more (d .trace) (w .role) in
             let x : take (suc (length (d .front))) (roles 1 t) ≡ l = ap (λ k. take k (roles 1 t)) n ∙ ap (take (length l)) e ∙ take-append-seam l (r .0) in
             subst (λ z. Broken z (f .fault)) (sym x) (breaks (d .trace) (w .role) (d .a) (d .b) (f .fault) c (w .refused));
-      }) ]
+      })
+    ]

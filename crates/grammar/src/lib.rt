@@ -9,8 +9,7 @@ ghost use Rattle.grammar.specs.Typings.{InferredDerived, DerivedInferred, Deri
 // A text has one division into signs, and that is what is read.
 pub fn texts_divided_exactly()
     ensures { λ _. ⌜ DividedExactly ⌝ }
-{
-}
+{}
 
 // Signs are read exactly as the grammar spells terms within the limits, and a refusal stands at the right sign.
 pub fn signs_read_exactly()
@@ -19,16 +18,14 @@ pub fn signs_read_exactly()
     ensures complete { λ _. ⌜ SpelledRead ⌝ }
     ensures unambiguous { λ _. ⌜ Unambiguous ⌝ }
     ensures refused { λ _. ⌜ RefusedRightly ⌝ }
-{
-}
+{}
 
 // A text has no fault of names exactly when each name is bound once, each occurrence bound and each binder used once;
 // else the fault with the smallest place, and of those the smallest number, is reported.
 pub fn names_checked_exactly()
     ensures right { λ _. ⌜ NamesRight ⌝ }
     ensures least { λ _. ⌜ NamesLeast ⌝ }
-{
-}
+{}
 
 // Types are inferred exactly as the linear rules give them, and the first fault is the one reported.
 pub fn types_inferred_exactly()
@@ -38,8 +35,7 @@ pub fn types_inferred_exactly()
     ensures first { λ _. ⌜ FirstFault ⌝ }
     ensures unique { λ _. ⌜ UniqueTypes ⌝ }
     ensures summed { λ _. ⌜ SumsDerived ⌝ }
-{
-}
+{}
 
 // A text is accepted exactly when the grammar spells it, no name is bound twice and the linear rules derive it at N, all within the limits;
 // its term and the types of all sub-terms are unique, and a refusal is that of the first question answered with no, at its place.
@@ -47,11 +43,9 @@ pub fn texts_accepted_exactly()
     ensures exactly { λ _. ⌜ AcceptedExactly ⌝ }
     ensures one { λ _. ⌜ AcceptedOne ⌝ }
     ensures rejected { λ _. ⌜ RejectedExactly ⌝ }
-{
-}
+{}
 
 // Texts with known answers, computed from their bytes on.
 pub fn known_answers()
     ensures { λ _. ⌜ KnownAnswers ⌝ }
-{
-}
+{}
