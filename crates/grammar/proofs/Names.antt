@@ -42,7 +42,7 @@ abbrev pub except : Name → List Use → List Use
 except w [] = []
 except w (o ∷ l) = cond (sameBytes w (o .1)) (except w l) (o ∷ except w l)
 
-abbrev places : Name → List Use → List ℕ
+abbrev pub places : Name → List Use → List ℕ
 places w [] = []
 places w (o ∷ l) = cond (sameBytes w (o .1)) (o .0 ∷ places w l) (places w l)
 
@@ -74,7 +74,7 @@ places-append w (o ∷ k) l = by (sameBytes w (o .1)) (places-append w k l)
     by true h = ap (λ z. o .0 ∷ z) h
     by false h = h
 
-places-except : (w v : Name) (l : List Use) → places w (except v l) ≡ cond (sameBytes w v) [] (places w l)
+pub places-except : (w v : Name) (l : List Use) → places w (except v l) ≡ cond (sameBytes w v) [] (places w l)
 places-except w v [] = by (sameBytes w v)
   where
     by : (b : Bool) → _≡_ {A = List ℕ} [] (cond b [] [])
@@ -89,7 +89,7 @@ places-except w v (o ∷ l) = by (sameBytes v (o .1)) refl (sameBytes w v) refl 
     by false e false f h = ap (λ z. cond (sameBytes w (o .1)) (o .0 ∷ z) z) h
 
 -- the definition of free occurrences, by uses
-occurs : (w : Name) (t : Tree Name) → occurrences w t ≡ places w (loose t)
+pub occurs : (w : Name) (t : Tree Name) → occurrences w t ≡ places w (loose t)
 occurs w (occ p v) = refl
 occurs w (num p n) = refl
 occurs w (succ p t) = occurs w t
@@ -108,7 +108,7 @@ occurs w (iter p t u v) =
     rw (occurs w t, occurs w u, occurs w v) (sym (places-append w (loose t) (loose u ++ loose v) ∙ ap (λ z. places w (loose t) ++ z) (places-append w (loose u) (loose v))))
 
 -- the innermost of the binders in force
-innermost : (σ : List Binder) (x : Binder) (w : Name) (p : ℕ) → binderOf w (σ ++ (x ∷ [])) p ≡ cond (sameBytes w (x .name)) (x .place) (binderOf w σ p)
+pub innermost : (σ : List Binder) (x : Binder) (w : Name) (p : ℕ) → binderOf w (σ ++ (x ∷ [])) p ≡ cond (sameBytes w (x .name)) (x .place) (binderOf w σ p)
 innermost [] x w p = refl
 innermost (y ∷ σ) x w p = innermost σ x w (cond (sameBytes w (y .name)) (y .place) p)
 
@@ -117,7 +117,7 @@ abbrev pub Below : ℕ → List Binder → Type 0
 Below lo [] = Unit {0}
 Below lo (x ∷ σ) = (x .place < lo) × Below lo σ
 
-abbrev From : ℕ → List Use → Type 0
+abbrev pub From : ℕ → List Use → Type 0
 From lo [] = Unit {0}
 From lo (o ∷ l) = (lo ≤ o .0) × From lo l
 
@@ -129,11 +129,11 @@ from-append : (lo : ℕ) (k l : List Use) → From lo k → From lo l → From l
 from-append lo [] l x y = y
 from-append lo (o ∷ k) l x y = (x .0, from-append lo k l (x .1) y)
 
-from-lower : (a b : ℕ) (l : List Use) → b ≤ a → From a l → From b l
+pub from-lower : (a b : ℕ) (l : List Use) → b ≤ a → From a l → From b l
 from-lower a b [] k h = tt
 from-lower a b (o ∷ l) k h = (omega (arith, h .0), from-lower a b l k (h .1))
 
-from-except : (lo : ℕ) (w : Name) (l : List Use) → From lo l → From lo (except w l)
+pub from-except : (lo : ℕ) (w : Name) (l : List Use) → From lo l → From lo (except w l)
 from-except lo w [] h = tt
 from-except lo w (o ∷ l) h = by (sameBytes w (o .1)) (from-except lo w l (h .1))
   where
@@ -141,7 +141,7 @@ from-except lo w (o ∷ l) h = by (sameBytes w (o .1)) (from-except lo w l (h .1
     by true k = k
     by false k = (h .0, k)
 
-loose-from : (t : Tree Name) (lo : ℕ) → Ordered lo t → From lo (loose t)
+pub loose-from : (t : Tree Name) (lo : ℕ) → Ordered lo t → From lo (loose t)
 loose-from (occ p w) lo h = (h, tt)
 loose-from (num p n) lo h = tt
 loose-from (succ p t) lo h = loose-from t lo h
@@ -164,7 +164,7 @@ elsewhere lo (x ∷ σ) w p h = by (sameBytes w (x .name)) (elsewhere lo σ w (x
     by false k m = m
 
 -- a use that is not the binder's is none of it
-not-its : (lo : ℕ) (σ : List Binder) (w : Name) (p b : ℕ) → Below lo σ → lo ≤ b → b < p → eqb b (binderOf w σ p) ≡ false
+pub not-its : (lo : ℕ) (σ : List Binder) (w : Name) (p b : ℕ) → Below lo σ → lo ≤ b → b < p → eqb b (binderOf w σ p) ≡ false
 not-its lo σ w p b h l k = ne-eqb b (binderOf w σ p) (λ e. elim (elsewhere lo σ w p h) [ inl m ↦ omega arith | inr m ↦ omega arith ])
 
 -- a binder's scope left: its uses go, and the others are as outside
@@ -185,7 +185,7 @@ its lo σ x (o ∷ l) h k f = by (sameBytes (x .name) (o .1)) refl (its lo σ x 
     by true e ih = rw (innermost σ x (o .1) (o .0), same-turned (o .1) (x .name), e, eq-eqb (x .place) (x .place) refl) (ap suc ih)
     by false e ih = rw (innermost σ x (o .1) (o .0), same-turned (o .1) (x .name), e, not-its lo σ (o .1) (o .0) (x .place) h k (f .0)) ih
 
-two-more : (σ : List Binder) (x y : Binder) → σ ++ (x ∷ y ∷ []) ≡ (σ ++ (x ∷ [])) ++ (y ∷ [])
+pub two-more : (σ : List Binder) (x y : Binder) → σ ++ (x ∷ y ∷ []) ≡ (σ ++ (x ∷ [])) ++ (y ∷ [])
 two-more σ x y = sym (append-assoc σ (x ∷ []) (y ∷ []))
 
 pub below-two : (lo : ℕ) (σ : List Binder) (x y : Binder) → Below lo σ → lo ≤ x .place → x .place < y .place → Below (suc (y .place)) (σ ++ (x ∷ y ∷ []))
