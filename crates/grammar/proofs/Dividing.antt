@@ -1,15 +1,14 @@
 -- The signs of a text are its one division.
 use mathlib.Core.Path.{_≡_, refl, sym, ap, subst, _∙_}
-use mathlib.Core.Bool.{Bool, true, false, cond, _&&_, _||_}
+use mathlib.Core.Bool.{Bool, true, false}
 use mathlib.Core.List.{List, [], _∷_, _++_}
 use Prim.Native.Nat.{ℕ, suc, _+_, _-_, _≤_}
 use native.Mathlib.Omega.{arith}
-use lib.Dec.{eqb, leb}
 use lib.ListN.{length, length-append}
 use Rattle.std.proofs.shelf.Ways.{tells}
-use Rattle.std.proofs.shelf.Tests.{both-ways, cases-bool}
+use Rattle.std.proofs.shelf.Tests.{both-ways}
 use Rattle.syntax.specs.Signs.{Sign, word, digits, mark, Placed, blank, letter, digit, begins, withLetter, withDigit, withByte, lex, signsOf}
-use Rattle.grammar.specs.Dividing.{All, Run, Divided, at-end, at-blank, at-word, at-digits, at-mark, DividedExactly}
+use Rattle.grammar.specs.Dividing.{Run, Divided, at-end, at-blank, at-word, at-digits, at-mark, DividedExactly}
 
 -- the kinds of bytes exclude each other
 blank-letter : (b : ℕ) → blank b ≡ true → letter b ≡ false

@@ -2,8 +2,7 @@
 use mathlib.Core.Path.{_≡_, refl, sym, ap, subst, _∙_}
 use mathlib.Core.Bool.{Bool, true, false, cond}
 use mathlib.Core.List.{List, []}
-use mathlib.Core.Logic.{_⊎_, inl, inr, _↔_}
-use Prim.Native.Nat.{ℕ, _≤_, _<_}
+use Prim.Native.Nat.{ℕ, _≤_}
 use native.Mathlib.Omega.{arith}
 use lib.Dec.{leb}
 use lib.ListN.{length}
@@ -13,9 +12,7 @@ use Rattle.std.specs.declared.option.Option.the-variants.{Some, None}
 use Rattle.std.specs.declared.result.Result.{Result}
 use Rattle.std.specs.declared.result.Result.the-variants.{Ok, Err}
 use Rattle.calculus.specs.Types.{Ty, N, _⇒_, _⊗_}
-use Rattle.calculus.specs.Terms.{free, iterators}
-use Rattle.calculus.specs.Typing.{Typed}
-use Rattle.syntax.specs.declared.refusal.Fault.{Fault}
+use Rattle.calculus.specs.Terms.{iterators}
 use Rattle.syntax.specs.declared.refusal.Fault.the-variants.{TooLong, NoNumber, ManyIterators}
 use Rattle.syntax.specs.declared.refusal.Refusal.{Refusal}
 use Rattle.syntax.specs.Trees.{Name, Tree, erase}
@@ -30,7 +27,7 @@ use Rattle.language.specs.Accepts.{numbered, typed, accepts as answers}
 use Rattle.grammar.specs.Derivations.{Derives, given}
 use Rattle.grammar.specs.Reading.{Refused}
 use Rattle.grammar.specs.Naming.{WellNamed}
-use Rattle.grammar.specs.Exactness.{Accepted, AcceptedExactly, One, AcceptedOne, Named, Rejected, too-long, unread, misnamed, untyped, no-number, many-iterators, RejectedExactly}
+use Rattle.grammar.specs.Exactness.{Accepted, AcceptedExactly, AcceptedOne, Named, Rejected, too-long, unread, misnamed, untyped, no-number, many-iterators, RejectedExactly}
 use Rattle.grammar.proofs.Contexts.{linear, keys-free}
 use Rattle.grammar.proofs.Unique.{unique}
 use Rattle.grammar.proofs.Inferred.{inferred, derived, first}

@@ -1,15 +1,14 @@
 -- The faults of names: none exactly where names are used linearly, and the least one reported.
 use mathlib.Core.Path.{_≡_, refl, sym, ap, subst, _∙_}
-use mathlib.Core.Bool.{Bool, true, false, cond, _&&_, _||_}
-use mathlib.Core.List.{List, [], _∷_, _++_, map, List·Memᴰ, List·Memᴰ·head, List·Memᴰ·tail, List·Memᴰ·cases-cons}
+use mathlib.Core.Bool.{Bool, true, false, cond}
+use mathlib.Core.List.{List, [], _∷_, _++_, List·Memᴰ, List·Memᴰ·head, List·Memᴰ·tail, List·Memᴰ·cases-cons}
 use mathlib.Core.Logic.{_⊎_, inl, inr, _↔_}
 use Prim.Native.Nat.{ℕ, suc, _≤_, _<_}
 use native.Mathlib.Omega.{arith}
-use lib.Dec.{eqb, ltb}
+use lib.Dec.{eqb}
 use lib.ListN.{length}
 use Rattle.std.proofs.shelf.Tests.{ne-eqb, or-parts, or-from, cases-bool, both-ways}
 use Rattle.std.proofs.shelf.Ways.{tells}
-use Rattle.std.proofs.shelf.Equals.{sameBytes-decides}
 use Rattle.std.specs.shelf.Text.{sameBytes}
 use Rattle.std.specs.declared.option.Option.{Option}
 use Rattle.std.specs.declared.option.Option.the-variants.{Some, None}
@@ -20,7 +19,7 @@ use Rattle.syntax.specs.declared.refusal.Refusal.{Refusal}
 use Rattle.syntax.specs.Trees.{Name, Binder, Tree, occ, num, succ, lam, app, pair, split, iter, erase}
 use Rattle.syntax.specs.Names.{resolve, among, fault, unbound, binders, boundTwice, occurrences, usedOnce, misused, nameFaults, number, before, sooner, least, nameFault}
 use Rattle.grammar.specs.Uses.{Linear}
-use Rattle.grammar.specs.Naming.{Unlike, Distinct, WellNamed, NamesRight, NamesLeast}
+use Rattle.grammar.specs.Naming.{Unlike, Distinct, NamesRight, NamesLeast}
 use Rattle.grammar.proofs.Places.{Ordered, spans-ordered, spelled-spans}
 use Rattle.grammar.proofs.Names.{Use, except, loose, resolved, Below, below-more, below-two, same-turned, same-is, same-self, uses, lam-count, first-count, second-count}
 use Rattle.grammar.proofs.NameFaults.{listed}

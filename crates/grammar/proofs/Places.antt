@@ -1,14 +1,14 @@
 -- The places of signs rise from the left, and so do those in a term that they spell.
-use mathlib.Core.Path.{_≡_, refl, sym, ap, subst, _∙_}
+use mathlib.Core.Path.{_≡_, subst}
 use mathlib.Core.Bool.{Bool, true, false, cond}
 use mathlib.Core.List.{List, [], _∷_}
-use Prim.Native.Nat.{ℕ, suc, _+_, _-_, _≤_, _<_}
+use Prim.Native.Nat.{ℕ, suc, _-_, _≤_, _<_}
 use native.Mathlib.Omega.{arith}
 use lib.ListN.{length}
 use Rattle.calculus.specs.Types.{Ty, N, _⇒_, _⊗_}
-use Rattle.syntax.specs.Trees.{Name, Binder, Tree, occ, num, succ, lam, app, pair, split, iter}
+use Rattle.syntax.specs.Trees.{Name, Tree, occ, num, succ, lam, app, pair, split, iter}
 use Rattle.syntax.specs.Signs.{Sign, word, digits, mark, Placed, blank, letter, digit, begins, withLetter, withDigit, withByte, lex, signsOf}
-use Rattle.syntax.specs.Grammar.{Next, At, Binds, StandsType, Stands, Spells}
+use Rattle.syntax.specs.Grammar.{Next, At, StandsType, Stands, Spells}
 
 -- places from lo on, each past the one before
 abbrev pub Rising : ℕ → List Placed → Type 0
