@@ -29,10 +29,6 @@ digit-blank b h = grind (arith, tells)
 digit-letter : (b : ℕ) → digit b ≡ true → letter b ≡ false
 digit-letter b h = grind (arith, tells)
 
-run-begins : (kind : ℕ → Bool) (w s : List ℕ) → begins kind w ≡ true → begins kind (w ++ s) ≡ true
-run-begins kind [] s h = let z : _≡_ {A = ℕ} 0 1 = cc in absurd (omega arith)
-run-begins kind (b ∷ w) s h = h
-
 run-other : (kind other : ℕ → Bool) (w s : List ℕ) → ((b : ℕ) → kind b ≡ true → other b ≡ false) → begins kind w ≡ true → begins other (w ++ s) ≡ false
 run-other kind other [] s f h = let z : _≡_ {A = ℕ} 0 1 = cc in absurd (omega arith)
 run-other kind other (b ∷ w) s f h = f b h

@@ -33,15 +33,17 @@ orphan-is (o ∷ l) f m = by (eqb (o .0) (o .1)) refl m (orphan-is l f)
   where
     by : (c : Bool) → eqb (o .0) (o .1) ≡ c → List·Memᴰ f (cond c (fault Unbound (o .0) ∷ orphans l) (orphans l)) → (List·Memᴰ f (orphans l) → (p : ℕ) × List·Memᴰ (p, p) l × (fault Unbound p ≡ f)) → (p : ℕ) × List·Memᴰ (p, p) (o ∷ l) × (fault Unbound p ≡ f)
     by true e n i = elim (List·Memᴰ·cases-cons n) [
-        inl h ↦ (o .0, List·Memᴰ·head (ap (λ b. (o .0, b)) (eqb-true (o .0) (o .1) e)), sym h)
-      | inr h ↦ (let r = i h in (r .0, List·Memᴰ·tail (r .1), r .2)) ]
+      | inl h ↦ (o .0, List·Memᴰ·head (ap (λ b. (o .0, b)) (eqb-true (o .0) (o .1) e)), sym h)
+      | inr h ↦ (let r = i h in (r .0, List·Memᴰ·tail (r .1), r .2))
+    ]
     by false e n i = let r = i n in (r .0, List·Memᴰ·tail (r .1), r .2)
 
 orphan-of : (l : List (ℕ × ℕ)) (p : ℕ) → List·Memᴰ (p, p) l → List·Memᴰ (fault Unbound p) (orphans l)
 orphan-of [] p m = elim m [ ]
 orphan-of (o ∷ l) p m = elim (List·Memᴰ·cases-cons m) [
-    inl h ↦ subst (λ z. List·Memᴰ (fault Unbound p) (orphans (z ∷ l))) h (rw (eq-eqb p p refl) (List·Memᴰ·head refl))
-  | inr h ↦ by (eqb (o .0) (o .1)) (orphan-of l p h) ]
+  | inl h ↦ subst (λ z. List·Memᴰ (fault Unbound p) (orphans (z ∷ l))) h (rw (eq-eqb p p refl) (List·Memᴰ·head refl))
+  | inr h ↦ by (eqb (o .0) (o .1)) (orphan-of l p h)
+]
   where
     by : (c : Bool) → List·Memᴰ (fault Unbound p) (orphans l) → List·Memᴰ (fault Unbound p) (cond c (fault Unbound (o .0) ∷ orphans l) (orphans l))
     by true n = List·Memᴰ·tail n
@@ -65,8 +67,9 @@ owned-cut b (o ∷ l) p m = by (eqb b (o .1)) refl m (owned-cut b l p)
   where
     by : (c : Bool) → eqb b (o .1) ≡ c → List·Memᴰ p (cond c (o .0 ∷ owned b l) (owned b l)) → (List·Memᴰ p (owned b l) → Cut b l p) → Cut b (o ∷ l) p
     by true e n i = elim (List·Memᴰ·cases-cons n) [
-        inl h ↦ record { front = []; rest = l; is = ap (λ z. z ∷ l) (its-own b o e ∙ ap (λ z. (z, b)) (sym h)) }
-      | inr h ↦ cut-cons b o l p (i h) ]
+      | inl h ↦ record { front = []; rest = l; is = ap (λ z. z ∷ l) (its-own b o e ∙ ap (λ z. (z, b)) (sym h)) }
+      | inr h ↦ cut-cons b o l p (i h)
+    ]
     by false e n i = cut-cons b o l p (i n)
 
 owned-here : (b p : ℕ) (l : List (ℕ × ℕ)) → owned b ((p, b) ∷ l) ≡ p ∷ owned b l
@@ -75,8 +78,9 @@ owned-here b p l = rw (eq-eqb b b refl) refl
 owned-of : (b p : ℕ) (l : List (ℕ × ℕ)) → List·Memᴰ (p, b) l → List·Memᴰ p (owned b l)
 owned-of b p [] m = elim m [ ]
 owned-of b p (o ∷ l) m = elim (List·Memᴰ·cases-cons m) [
-    inl h ↦ subst (λ z. List·Memᴰ p (owned b (z ∷ l))) h (subst (List·Memᴰ p) (sym (owned-here b p l)) (List·Memᴰ·head refl))
-  | inr h ↦ by (eqb b (o .1)) (owned-of b p l h) ]
+  | inl h ↦ subst (λ z. List·Memᴰ p (owned b (z ∷ l))) h (subst (List·Memᴰ p) (sym (owned-here b p l)) (List·Memᴰ·head refl))
+  | inr h ↦ by (eqb b (o .1)) (owned-of b p l h)
+]
   where
     by : (c : Bool) → List·Memᴰ p (owned b l) → List·Memᴰ p (cond c (o .0 ∷ owned b l) (owned b l))
     by true n = List·Memᴰ·tail n
@@ -145,8 +149,9 @@ faults-is (x ∷ xs) l f m = elim (List·Memᴰ·append-cases (usedOnce x (owned
 faults-of : (xs : List Binder) (l : List (ℕ × ℕ)) (f : Refusal) (x : Binder) → List·Memᴰ x xs → List·Memᴰ f (usedOnce x (owned (x .place) l)) → List·Memᴰ f (faultsOf xs l)
 faults-of [] l f x m n = elim m [ ]
 faults-of (y ∷ xs) l f x m n = elim (List·Memᴰ·cases-cons m) [
-    inl h ↦ into-left (faultsOf xs l) (subst (λ z. List·Memᴰ f (usedOnce z (owned (z .place) l))) h n)
-  | inr h ↦ into-right (usedOnce y (owned (y .place) l)) (faults-of xs l f x h n) ]
+  | inl h ↦ into-left (faultsOf xs l) (subst (λ z. List·Memᴰ f (usedOnce z (owned (z .place) l))) h n)
+  | inr h ↦ into-right (usedOnce y (owned (y .place) l)) (faults-of xs l f x h n)
+]
 
 -- a name that was taken before: among these names, or by an earlier binder
 Taken : List Name → List Binder → Binder → Type 0
@@ -167,10 +172,15 @@ rebound-is (x ∷ xs) ns f m = by (among (x .name) ns) refl m (rebound-is xs (x 
   where
     later : Rebound (x .name ∷ ns) xs f → Rebound ns (x ∷ xs) f
     later r = record {
-      front = x ∷ r .front; rest = r .rest; binder = r .binder; is = ap (λ z. x ∷ z) (r .is); same = r .same;
+      front = x ∷ r .front;
+      rest = r .rest;
+      binder = r .binder;
+      is = ap (λ z. x ∷ z) (r .is);
+      same = r .same;
       taken = elim (r .taken) [
-          inl h ↦ elim (or-cases (sameBytes (r .binder .name) (x .name)) (among (r .binder .name) ns) h) [ inl k ↦ inr (x, List·Memᴰ·head refl, sym (same-is (r .binder .name) (x .name) k)) | inr k ↦ inl k ]
-        | inr h ↦ inr (h .0, List·Memᴰ·tail (h .1), h .2) ];
+        | inl h ↦ elim (or-cases (sameBytes (r .binder .name) (x .name)) (among (r .binder .name) ns) h) [ inl k ↦ inr (x, List·Memᴰ·head refl, sym (same-is (r .binder .name) (x .name) k)) | inr k ↦ inl k ]
+        | inr h ↦ inr (h .0, List·Memᴰ·tail (h .1), h .2)
+      ];
     }
 
     by : (c : Bool) → among (x .name) ns ≡ c → List·Memᴰ f (cond c (fault BoundTwice (x .place) ∷ boundTwice (x .name ∷ ns) xs) (boundTwice (x .name ∷ ns) xs)) → (List·Memᴰ f (boundTwice (x .name ∷ ns) xs) → Rebound (x .name ∷ ns) xs f) → Rebound ns (x ∷ xs) f
@@ -186,8 +196,9 @@ rebound-of (z ∷ front) rest x ns t = by (among (z .name) ns) (rebound-of front
     still : (among (x .name) ns ≡ true) ⊎ ((y : Binder) × List·Memᴰ y (z ∷ front) × (y .name ≡ x .name)) → (among (x .name) (z .name ∷ ns) ≡ true) ⊎ ((y : Binder) × List·Memᴰ y front × (y .name ≡ x .name))
     still (inl h) = inl (or-right (sameBytes (x .name) (z .name)) (among (x .name) ns) h)
     still (inr (y, m, e)) = elim (List·Memᴰ·cases-cons m) [
-        inl h ↦ inl (or-left (sameBytes (x .name) (z .name)) (among (x .name) ns) (subst (λ w. sameBytes w (z .name) ≡ true) (ap (λ b. b .name) (sym h) ∙ e) (same-self (z .name))))
-      | inr h ↦ inr (y, h, e) ]
+      | inl h ↦ inl (or-left (sameBytes (x .name) (z .name)) (among (x .name) ns) (subst (λ w. sameBytes w (z .name) ≡ true) (ap (λ b. b .name) (sym h) ∙ e) (same-self (z .name))))
+      | inr h ↦ inr (y, h, e)
+    ]
 
     by : (c : Bool) → List·Memᴰ (fault BoundTwice (x .place)) (boundTwice (z .name ∷ ns) (front ++ (x ∷ rest))) → List·Memᴰ (fault BoundTwice (x .place)) (cond c (fault BoundTwice (z .place) ∷ boundTwice (z .name ∷ ns) (front ++ (x ∷ rest))) (boundTwice (z .name ∷ ns) (front ++ (x ∷ rest))))
     by true n = List·Memᴰ·tail n
@@ -211,15 +222,18 @@ module _ (t : Tree Name) (hi : ℕ) (s : Spans 0 hi t) where
   misuse-fault : (f : Refusal) → (x : Binder) × List·Memᴰ x (binders t) × List·Memᴰ f (usedOnce x (owned (x .place) all)) → NameFault t f
   unfolding Misuse
   misuse-fault f (x, m, n) = elim (misuse-is x all f n) [
-      inl (e, h) ↦ subst (NameFault t) e (no-use x m h)
-    | inr (p, e, h) ↦ subst (NameFault t) e (second-use (h .front) (h .rest) x p (h .earlier) m (h .is) (h .before)) ]
+    | inl (e, h) ↦ subst (NameFault t) e (no-use x m h)
+    | inr (p, e, h) ↦ subst (NameFault t) e (second-use (h .front) (h .rest) x p (h .earlier) m (h .is) (h .before))
+  ]
 
   listed-fault : (f : Refusal) → List·Memᴰ f (nameFaults t) → NameFault t f
   listed-fault f m = elim (List·Memᴰ·append-cases (unbound [] t) m) [
-      inl h ↦ (let r = orphan-is all f (subst (List·Memᴰ f) unbound-all h) in subst (NameFault t) (r .2) (without-binder (r .1)))
+    | inl h ↦ (let r = orphan-is all f (subst (List·Memᴰ f) unbound-all h) in subst (NameFault t) (r .2) (without-binder (r .1)))
     | inr k ↦ elim (List·Memᴰ·append-cases (boundTwice [] (binders t)) k) [
-        inl h ↦ taken-fault f (rebound-is (binders t) [] f h)
-      | inr h ↦ misuse-fault f (faults-is (binders t) all f (subst (List·Memᴰ f) misused-all h)) ] ]
+      | inl h ↦ taken-fault f (rebound-is (binders t) [] f h)
+      | inr h ↦ misuse-fault f (faults-is (binders t) all f (subst (List·Memᴰ f) misused-all h))
+    ]
+  ]
 
   in-misused : (f : Refusal) (x : Binder) → List·Memᴰ x (binders t) → List·Memᴰ f (usedOnce x (owned (x .place) all)) → List·Memᴰ f (nameFaults t)
   in-misused f x m n = into-right (unbound [] t) (into-right (boundTwice [] (binders t)) (subst (List·Memᴰ f) (sym misused-all) (faults-of (binders t) all f x m n)))

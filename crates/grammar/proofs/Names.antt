@@ -1,4 +1,4 @@
--- Names against binders' places: what a name means where it occurs, and how often a binder is used.
+-- Names against binders' places: what a name means where it occurs.
 use mathlib.Core.Path.{_≡_, refl, sym, ap, subst, _∙_}
 use mathlib.Core.Bool.{Bool, true, false, cond, _||_}
 use mathlib.Core.List.{List, [], _∷_, _++_, append-assoc}
@@ -13,8 +13,6 @@ use Rattle.std.specs.shelf.Text.{sameBytes}
 use Rattle.calculus.specs.Terms.{free, without}
 use Rattle.syntax.specs.Trees.{Name, Binder, Tree, occ, num, succ, lam, app, pair, split, iter, erase}
 use Rattle.syntax.specs.Names.{binderOf, resolve, occurrences}
-use Rattle.grammar.specs.Uses.{count}
-use Rattle.grammar.proofs.Contexts.{count-without}
 use Rattle.grammar.proofs.Places.{Ordered}
 
 -- equal names
@@ -176,15 +174,6 @@ leave lo σ x (o ∷ l) h k f = by (sameBytes (x .name) (o .1)) refl (leave lo �
     by true e ih = rw (innermost σ x (o .1) (o .0), same-turned (o .1) (x .name), e, eq-eqb (x .place) (x .place) refl) ih
     by false e ih = rw (innermost σ x (o .1) (o .0), same-turned (o .1) (x .name), e, not-its lo σ (o .1) (o .0) (x .place) h k (f .0)) (ap (λ z. binderOf (o .1) σ (o .0) ∷ z) ih)
 
--- the uses of a binder are those of its name
-its : (lo : ℕ) (σ : List Binder) (x : Binder) (l : List Use) → Below lo σ → lo ≤ x .place → From (suc (x .place)) l → count (x .place) (resolved (σ ++ (x ∷ [])) l) ≡ length (places (x .name) l)
-its lo σ x [] h k f = refl
-its lo σ x (o ∷ l) h k f = by (sameBytes (x .name) (o .1)) refl (its lo σ x l h k (f .1))
-  where
-    by : (b : Bool) → sameBytes (x .name) (o .1) ≡ b → count (x .place) (resolved (σ ++ (x ∷ [])) l) ≡ length (places (x .name) l) → count (x .place) (binderOf (o .1) (σ ++ (x ∷ [])) (o .0) ∷ resolved (σ ++ (x ∷ [])) l) ≡ length (cond b (o .0 ∷ places (x .name) l) (places (x .name) l))
-    by true e ih = rw (innermost σ x (o .1) (o .0), same-turned (o .1) (x .name), e, eq-eqb (x .place) (x .place) refl) (ap suc ih)
-    by false e ih = rw (innermost σ x (o .1) (o .0), same-turned (o .1) (x .name), e, not-its lo σ (o .1) (o .0) (x .place) h k (f .0)) ih
-
 pub two-more : (σ : List Binder) (x y : Binder) → σ ++ (x ∷ y ∷ []) ≡ (σ ++ (x ∷ [])) ++ (y ∷ [])
 two-more σ x y = sym (append-assoc σ (x ∷ []) (y ∷ []))
 
@@ -212,26 +201,3 @@ uses (split p x y t u) σ lo h k =
     rw (uses t σ lo h (k .2), d) (sym (resolved-append σ (loose t) (except (x .name) (except (y .name) (loose u)))))
 uses (iter p t u v) σ lo h k =
     rw (uses t σ lo h (k .0), uses u σ lo h (k .1), uses v σ lo h (k .2)) (sym (resolved-append σ (loose t) (loose u ++ loose v) ∙ ap (λ z. resolved σ (loose t) ++ z) (resolved-append σ (loose u) (loose v))))
-
--- how often a binder is used, by its name
-pub lam-count : (σ : List Binder) (lo : ℕ) (x : Binder) (t : Tree Name) → Below lo σ → lo ≤ x .place → Ordered (suc (x .place)) t → count (x .place) (free (erase (resolve (σ ++ (x ∷ [])) t))) ≡ length (occurrences (x .name) t)
-lam-count σ lo x t h l k =
-    ap (count (x .place)) (uses t (σ ++ (x ∷ [])) (suc (x .place)) (below-more lo (suc (x .place)) σ x h (omega arith) (omega arith)) k) ∙ its lo σ x (loose t) h l (loose-from t (suc (x .place)) k) ∙ ap length (sym (occurs (x .name) t))
-
-pub second-count : (σ : List Binder) (lo : ℕ) (x y : Binder) (u : Tree Name) → Below lo σ → lo ≤ x .place → x .place < y .place → Ordered (suc (y .place)) u → count (y .place) (free (erase (resolve (σ ++ (x ∷ y ∷ [])) u))) ≡ length (occurrences (y .name) u)
-second-count σ lo x y u h l m k =
-    ap (λ ρ. count (y .place) (free (erase (resolve ρ u)))) (two-more σ x y) ∙ lam-count (σ ++ (x ∷ [])) (suc (x .place)) y u (below-more lo (suc (x .place)) σ x h (omega arith) (omega arith)) m k
-
-pub first-count : (σ : List Binder) (lo : ℕ) (x y : Binder) (u : Tree Name) → Below lo σ → lo ≤ x .place → x .place < y .place → Ordered (suc (y .place)) u → count (x .place) (free (erase (resolve (σ ++ (x ∷ y ∷ [])) u))) ≡ length (cond (sameBytes (x .name) (y .name)) [] (occurrences (x .name) u))
-first-count σ lo x y u h l m k =
-    let τ = σ ++ (x ∷ []) in
-    let b = below-more lo (suc (x .place)) σ x h (omega arith) (omega arith) in
-    let n = below-more (suc (x .place)) (suc (y .place)) τ y b (omega arith) (omega arith) in
-    let f = loose-from u (suc (y .place)) k in
-    let apart : eqb (x .place) (y .place) ≡ false = ne-eqb (x .place) (y .place) (λ e. omega arith) in
-    ap (λ ρ. count (x .place) (free (erase (resolve ρ u)))) (two-more σ x y)
-    ∙ ap (count (x .place)) (uses u (τ ++ (y ∷ [])) (suc (y .place)) n k)
-    ∙ sym (count-without (x .place) (y .place) (resolved (τ ++ (y ∷ [])) (loose u)) apart)
-    ∙ ap (count (x .place)) (leave (suc (x .place)) τ y (loose u) b m f)
-    ∙ its lo σ x (except (y .name) (loose u)) h l (from-except (suc (x .place)) (y .name) (loose u) (from-lower (suc (y .place)) (suc (x .place)) (loose u) (omega arith) f))
-    ∙ ap length (places-except (x .name) (y .name) (loose u) ∙ ap (cond (sameBytes (x .name) (y .name)) []) (sym (occurs (x .name) u)))

@@ -21,7 +21,8 @@ use Rattle.syntax.specs.Names.{resolve, among, fault, unbound, binders, boundTw
 use Rattle.grammar.specs.Uses.{Linear}
 use Rattle.grammar.specs.Naming.{Unlike, Distinct, NamesRight, NamesLeast}
 use Rattle.grammar.proofs.Places.{Ordered, spans-ordered, spelled-spans}
-use Rattle.grammar.proofs.Names.{Use, except, loose, resolved, Below, below-more, below-two, same-turned, same-is, same-self, uses, lam-count, first-count, second-count}
+use Rattle.grammar.proofs.Names.{Use, except, loose, resolved, Below, below-more, below-two, same-turned, same-is, same-self, uses}
+use Rattle.grammar.proofs.Owners.{lam-count, first-count, second-count}
 use Rattle.grammar.proofs.NameFaults.{listed}
 
 -- lists that are empty
@@ -263,6 +264,7 @@ of-least fs f (Some g) e l = ap Some (least-once g f fs (least-of fs g e) l)
 pub leastly : NamesLeast
 leastly text t f s =
     let a = spelled-spans text t s in
-    let n = listed t (a .0) (a .1) in
-    (λ h. (let l = least-of (nameFaults t) f h in record { fault = n f .0 (l .among); first = λ g k. l .first g (n g .1 k) }),
-     λ l. of-least (nameFaults t) f (nameFault t) refl (record { among = n f .1 (l .fault); first = λ g k. l .first g (n g .0 k) }))
+    let n = listed t (a .0) (a .1) in (
+      λ h. (let l = least-of (nameFaults t) f h in record { fault = n f .0 (l .among); first = λ g k. l .first g (n g .1 k) }),
+      λ l. of-least (nameFaults t) f (nameFault t) refl (record { among = n f .1 (l .fault); first = λ g k. l .first g (n g .0 k) }),
+    )

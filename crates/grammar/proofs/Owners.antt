@@ -6,15 +6,18 @@ use mathlib.Core.Logic.{_⊎_, inl, inr}
 use Prim.Native.Nat.{ℕ, suc, _≤_, _<_}
 use native.Mathlib.Omega.{arith}
 use lib.Dec.{eqb}
+use lib.ListN.{length}
 use Rattle.std.proofs.shelf.Tests.{eq-eqb, ne-eqb, or-parts}
 use Rattle.std.specs.shelf.Text.{sameBytes}
+use Rattle.calculus.specs.Terms.{free}
 use Rattle.syntax.specs.declared.refusal.Fault.the-variants.{Unbound}
 use Rattle.syntax.specs.declared.refusal.Refusal.{Refusal}
-use Rattle.syntax.specs.Trees.{Name, Binder, Tree, occ, num, succ, lam, app, pair, split, iter}
+use Rattle.syntax.specs.Trees.{Name, Binder, Tree, occ, num, succ, lam, app, pair, split, iter, erase}
 use Rattle.syntax.specs.Names.{binderOf, resolve, among, fault, unbound, binders, occurrences, usedOnce, misused}
+use Rattle.grammar.specs.Uses.{count}
 use Rattle.grammar.specs.Naming.{uses}
 use Rattle.grammar.proofs.Places.{Ordered, Spans, spans-up, lower, spans-ordered}
-use Rattle.grammar.proofs.Names.{Use, except, places, loose, Below, From, below-more, below-two, two-more, innermost, not-its, places-except, occurs, loose-from, from-except, from-lower, same-turned}
+use Rattle.grammar.proofs.Names.{Use, except, places, loose, resolved, uses as frees, Below, From, below-more, below-two, two-more, innermost, not-its, places-except, occurs, loose-from, from-except, from-lower, same-turned}
 
 -- the occurrences that the binder at b has
 abbrev pub owned : ℕ → List (ℕ × ℕ) → List ℕ
@@ -70,8 +73,8 @@ owned-loose (pair p t u) σ lo b h o = both-owned b _ _ _ _ (owned-loose t σ lo
 owned-loose (split p x y t u) σ lo b h o =
     let τ = σ ++ (x ∷ []) in
     let e = ap (λ ρ. owned b (uses (resolve ρ u))) (two-more σ x y) ∙ owned-loose u (τ ++ (y ∷ [])) (suc (y .place)) b (omega (arith, o .0, o .1)) (o .3)
-          ∙ outer b τ y (loose u) (ne-eqb b (y .place) (λ e. let l = o .0 in let k = o .1 in omega arith))
-          ∙ outer b σ x (except (y .name) (loose u)) (ne-eqb b (x .place) (λ e. let l = o .0 in omega arith)) in
+    ∙ outer b τ y (loose u) (ne-eqb b (y .place) (λ e. let l = o .0 in let k = o .1 in omega arith))
+    ∙ outer b σ x (except (y .name) (loose u)) (ne-eqb b (x .place) (λ e. let l = o .0 in omega arith)) in
     both-owned b _ _ _ _ (owned-loose t σ lo b h (o .2)) e ∙ ap (owned b) (sym (pairs-append σ (loose t) (except (x .name) (except (y .name) (loose u)))))
 owned-loose (iter p t u v) σ lo b h o =
     both-owned b _ _ _ _ (owned-loose t σ lo b h (o .0)) (both-owned b _ _ _ _ (owned-loose u σ lo b h (o .1)) (owned-loose v σ lo b h (o .2)) ∙ ap (owned b) (sym (pairs-append σ (loose u) (loose v)))) ∙ ap (owned b) (sym (pairs-append σ (loose t) (loose u ++ loose v)))
@@ -88,11 +91,32 @@ owns-first σ lo x y u h l k o =
     let τ = σ ++ (x ∷ []) in
     let f = from-except (suc (x .place)) (y .name) (loose u) (from-lower (suc (y .place)) (suc (x .place)) (loose u) (omega arith) (loose-from u (suc (y .place)) o)) in
     ap (λ ρ. owned (x .place) (uses (resolve ρ u))) (two-more σ x y)
-      ∙ owned-loose u (τ ++ (y ∷ [])) (suc (y .place)) (x .place) (omega arith) o
-      ∙ outer (x .place) τ y (loose u) (ne-eqb (x .place) (y .place) (λ e. omega arith))
-      ∙ inner lo σ x (except (y .name) (loose u)) h l f
-      ∙ places-except (x .name) (y .name) (loose u)
-      ∙ ap (cond (sameBytes (x .name) (y .name)) []) (sym (occurs (x .name) u))
+    ∙ owned-loose u (τ ++ (y ∷ [])) (suc (y .place)) (x .place) (omega arith) o
+    ∙ outer (x .place) τ y (loose u) (ne-eqb (x .place) (y .place) (λ e. omega arith))
+    ∙ inner lo σ x (except (y .name) (loose u)) h l f
+    ∙ places-except (x .name) (y .name) (loose u)
+    ∙ ap (cond (sameBytes (x .name) (y .name)) []) (sym (occurs (x .name) u))
+
+-- how often a binder outside is among the free variables
+count-pairs : (b : ℕ) (σ : List Binder) (l : List Use) → count b (resolved σ l) ≡ length (owned b (pairs σ l))
+count-pairs b σ [] = refl
+count-pairs b σ (o ∷ l) = by (eqb b (binderOf (o .1) σ (o .0))) (count-pairs b σ l)
+  where
+    by : (c : Bool) → count b (resolved σ l) ≡ length (owned b (pairs σ l)) → cond c (suc (count b (resolved σ l))) (count b (resolved σ l)) ≡ length (cond c (o .0 ∷ owned b (pairs σ l)) (owned b (pairs σ l)))
+    by true h = ap suc h
+    by false h = h
+
+count-owned : (t : Tree Name) (σ : List Binder) (lo b : ℕ) → Below lo σ → Ordered lo t → b < lo → count b (free (erase (resolve σ t))) ≡ length (owned b (uses (resolve σ t)))
+count-owned t σ lo b h o l = ap (count b) (frees t σ lo h o) ∙ count-pairs b σ (loose t) ∙ ap length (sym (owned-loose t σ lo b l o))
+
+pub lam-count : (σ : List Binder) (lo : ℕ) (x : Binder) (t : Tree Name) → Below lo σ → lo ≤ x .place → Ordered (suc (x .place)) t → count (x .place) (free (erase (resolve (σ ++ (x ∷ [])) t))) ≡ length (occurrences (x .name) t)
+lam-count σ lo x t h l o = count-owned t (σ ++ (x ∷ [])) (suc (x .place)) (x .place) (below-more lo (suc (x .place)) σ x h (omega arith) (omega arith)) o (omega arith) ∙ ap length (owns σ lo x t h l o)
+
+pub second-count : (σ : List Binder) (lo : ℕ) (x y : Binder) (u : Tree Name) → Below lo σ → lo ≤ x .place → x .place < y .place → Ordered (suc (y .place)) u → count (y .place) (free (erase (resolve (σ ++ (x ∷ y ∷ [])) u))) ≡ length (occurrences (y .name) u)
+second-count σ lo x y u h l k o = count-owned u (σ ++ (x ∷ y ∷ [])) (suc (y .place)) (y .place) (below-two lo σ x y h l k) o (omega arith) ∙ ap length (owns-second σ lo x y u h l k o)
+
+pub first-count : (σ : List Binder) (lo : ℕ) (x y : Binder) (u : Tree Name) → Below lo σ → lo ≤ x .place → x .place < y .place → Ordered (suc (y .place)) u → count (x .place) (free (erase (resolve (σ ++ (x ∷ y ∷ [])) u))) ≡ length (cond (sameBytes (x .name) (y .name)) [] (occurrences (x .name) u))
+first-count σ lo x y u h l k o = count-owned u (σ ++ (x ∷ y ∷ [])) (suc (y .place)) (x .place) (below-two lo σ x y h l k) o (omega arith) ∙ ap length (owns-first σ lo x y u h l k o)
 
 -- a place of no binder in force
 abbrev Apart : ℕ → List Binder → Type 0
@@ -219,13 +243,13 @@ misused-is (lam p x T t) σ lo hi h s =
 misused-is (app p t u) σ lo hi h (m, s, r) =
     let i = spans-up t lo m s in
     faults-two lo m hi (binders t) (binders u) (uses (resolve σ t)) (uses (resolve σ u)) (misused t) (misused u) (ranged t lo m s) (ranged u m hi r)
-      (λ c x y. nothing-owned u σ m hi c r (below-apart c lo σ h x) (inl y)) (λ c x y. nothing-owned t σ lo m c s (below-apart c lo σ h (omega arith)) (inr x))
-      (misused-is t σ lo m h s) (misused-is u σ m hi (below-wider lo m σ i h) r)
+    (λ c x y. nothing-owned u σ m hi c r (below-apart c lo σ h x) (inl y)) (λ c x y. nothing-owned t σ lo m c s (below-apart c lo σ h (omega arith)) (inr x))
+    (misused-is t σ lo m h s) (misused-is u σ m hi (below-wider lo m σ i h) r)
 misused-is (pair p t u) σ lo hi h (m, s, r) =
     let i = spans-up t lo m s in
     faults-two lo m hi (binders t) (binders u) (uses (resolve σ t)) (uses (resolve σ u)) (misused t) (misused u) (ranged t lo m s) (ranged u m hi r)
-      (λ c x y. nothing-owned u σ m hi c r (below-apart c lo σ h x) (inl y)) (λ c x y. nothing-owned t σ lo m c s (below-apart c lo σ h (omega arith)) (inr x))
-      (misused-is t σ lo m h s) (misused-is u σ m hi (below-wider lo m σ i h) r)
+    (λ c x y. nothing-owned u σ m hi c r (below-apart c lo σ h x) (inl y)) (λ c x y. nothing-owned t σ lo m c s (below-apart c lo σ h (omega arith)) (inr x))
+    (misused-is t σ lo m h s) (misused-is u σ m hi (below-wider lo m σ i h) r)
 misused-is (split p x y t u) σ lo hi h (m, l, k, s, r) =
     let n = suc (y .place) in
     let τ = σ ++ (x ∷ y ∷ []) in
@@ -237,15 +261,15 @@ misused-is (split p x y t u) σ lo hi h (m, l, k, s, r) =
     let τn = below-two lo σ x y h l k in
     let o = lower u m hi n i r in
     let first : owned (x .place) (a ++ c) ≡ cond (sameBytes (x .name) (y .name)) [] (occurrences (x .name) u) =
-        owned-append (x .place) a c ∙ ap (λ z. z ++ owned (x .place) c) (nothing-owned t σ n m (x .place) s (below-apart (x .place) lo σ h l) (inl (omega arith))) ∙ owns-first σ lo x y u h l k o in
+    owned-append (x .place) a c ∙ ap (λ z. z ++ owned (x .place) c) (nothing-owned t σ n m (x .place) s (below-apart (x .place) lo σ h l) (inl (omega arith))) ∙ owns-first σ lo x y u h l k o in
     let second : owned (y .place) (a ++ c) ≡ occurrences (y .name) u =
-        owned-append (y .place) a c ∙ ap (λ z. z ++ owned (y .place) c) (nothing-owned t σ n m (y .place) s (below-apart (y .place) lo σ h (omega arith)) (inl (omega arith))) ∙ owns-second σ lo x y u h l k o in
+    owned-append (y .place) a c ∙ ap (λ z. z ++ owned (y .place) c) (nothing-owned t σ n m (y .place) s (below-apart (y .place) lo σ h (omega arith)) (inl (omega arith))) ∙ owns-second σ lo x y u h l k o in
     let rest = faults-two n m hi (binders t) (binders u) a c (misused t) (misused u) (ranged t n m s) (ranged u m hi r)
-                 (λ d v w. nothing-owned u τ m hi d r (below-apart d n τ τn v) (inl w)) (λ d v w. nothing-owned t σ n m d s (below-apart d lo σ h (omega arith)) (inr v))
-                 (misused-is t σ n m hn s) (misused-is u τ m hi (below-wider n m τ i τn) r) in
+    (λ d v w. nothing-owned u τ m hi d r (below-apart d n τ τn v) (inl w)) (λ d v w. nothing-owned t σ n m d s (below-apart d lo σ h (omega arith)) (inr v))
+    (misused-is t σ n m hn s) (misused-is u τ m hi (below-wider n m τ i τn) r) in
     ap (λ z. usedOnce x z ++ (usedOnce y (occurrences (y .name) u) ++ (misused t ++ misused u))) (sym first)
-      ∙ ap (λ z. usedOnce x (owned (x .place) (a ++ c)) ++ (usedOnce y z ++ (misused t ++ misused u))) (sym second)
-      ∙ ap (λ z. usedOnce x (owned (x .place) (a ++ c)) ++ (usedOnce y (owned (y .place) (a ++ c)) ++ z)) rest
+    ∙ ap (λ z. usedOnce x (owned (x .place) (a ++ c)) ++ (usedOnce y z ++ (misused t ++ misused u))) (sym second)
+    ∙ ap (λ z. usedOnce x (owned (x .place) (a ++ c)) ++ (usedOnce y (owned (y .place) (a ++ c)) ++ z)) rest
 misused-is (iter p t u v) σ lo hi h (m, n, s, r, q) =
     let i = spans-up t lo m s in
     let j = spans-up u m n r in
@@ -255,10 +279,10 @@ misused-is (iter p t u v) σ lo hi h (m, n, s, r, q) =
     let c = uses (resolve σ v) in
     let later : (d : ℕ) → lo ≤ d → d < m → owned d (b ++ c) ≡ [] = λ d x y. owned-append d b c ∙ (rw (nothing-owned u σ m n d r (below-apart d lo σ h x) (inl y), nothing-owned v σ n hi d q (below-apart d lo σ h x) (inl (omega arith))) refl) in
     let two = faults-two m n hi (binders u) (binders v) b c (misused u) (misused v) (ranged u m n r) (ranged v n hi q)
-                (λ d x y. nothing-owned v σ n hi d q (below-apart d lo σ h (omega arith)) (inl y)) (λ d x y. nothing-owned u σ m n d r (below-apart d lo σ h (omega arith)) (inr x))
-                (misused-is u σ m n (below-wider lo m σ i h) r) (misused-is v σ n hi (below-wider lo n σ (omega arith) h) q) in
+    (λ d x y. nothing-owned v σ n hi d q (below-apart d lo σ h (omega arith)) (inl y)) (λ d x y. nothing-owned u σ m n d r (below-apart d lo σ h (omega arith)) (inr x))
+    (misused-is u σ m n (below-wider lo m σ i h) r) (misused-is v σ n hi (below-wider lo n σ (omega arith) h) q) in
     faults-two lo m hi (binders t) (binders u ++ binders v) a (b ++ c) (misused t) (misused u ++ misused v) (ranged t lo m s) (ranged-two m n hi (binders u) (binders v) j e (ranged u m n r) (ranged v n hi q))
-      later (λ d x y. nothing-owned t σ lo m d s (below-apart d lo σ h (omega arith)) (inr x)) (misused-is t σ lo m h s) two
+    later (λ d x y. nothing-owned t σ lo m d s (below-apart d lo σ h (omega arith)) (inr x)) (misused-is t σ lo m h s) two
 
 -- does a binder in force have the name w?
 abbrev has : Name → List Binder → Bool
@@ -326,7 +350,7 @@ unbound-is (app p t u) σ ns lo h o e = two-orphans (uses (resolve σ t)) (uses 
 unbound-is (pair p t u) σ ns lo h o e = two-orphans (uses (resolve σ t)) (uses (resolve σ u)) _ _ (unbound-is t σ ns lo h (o .0) e) (unbound-is u σ ns lo h (o .1) e)
 unbound-is (split p x y t u) σ ns lo h o e =
     let both : (w : Name) → among w (x .name ∷ y .name ∷ ns) ≡ has w (σ ++ (x ∷ y ∷ [])) = λ w.
-        ap (λ z. sameBytes w (x .name) || (sameBytes w (y .name) || z)) (e w) ∙ swap (sameBytes w (x .name)) (sameBytes w (y .name)) (has w σ)
-          ∙ sym (ap (has w) (two-more σ x y) ∙ has-more w (σ ++ (x ∷ [])) y ∙ ap (λ z. sameBytes w (y .name) || z) (has-more w σ x)) in
+    ap (λ z. sameBytes w (x .name) || (sameBytes w (y .name) || z)) (e w) ∙ swap (sameBytes w (x .name)) (sameBytes w (y .name)) (has w σ)
+    ∙ sym (ap (has w) (two-more σ x y) ∙ has-more w (σ ++ (x ∷ [])) y ∙ ap (λ z. sameBytes w (y .name) || z) (has-more w σ x)) in
     two-orphans (uses (resolve σ t)) (uses (resolve (σ ++ (x ∷ y ∷ [])) u)) _ _ (unbound-is t σ ns lo h (o .2) e) (unbound-is u (σ ++ (x ∷ y ∷ [])) (x .name ∷ y .name ∷ ns) (suc (y .place)) (below-two lo σ x y h (o .0) (o .1)) (o .3) both)
 unbound-is (iter p t u v) σ ns lo h o e = two-orphans (uses (resolve σ t)) (uses (resolve σ u) ++ uses (resolve σ v)) _ _ (unbound-is t σ ns lo h (o .0) e) (two-orphans (uses (resolve σ u)) (uses (resolve σ v)) _ _ (unbound-is u σ ns lo h (o .1) e) (unbound-is v σ ns lo h (o .2) e))
