@@ -1,2 +1,11 @@
 pub mod Trees
 pub mod Program
+pub mod Signs
+pub mod Grammar
+pub mod Parse
+pub mod Names
+pub mod Reads
+pub mod Layout
+pub mod Scopes
+pub mod Steps
+pub mod Held
