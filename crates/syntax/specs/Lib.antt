@@ -7,5 +7,5 @@ pub mod Names
 pub mod Reads
 pub mod Layout
 pub mod Scopes
-pub mod Steps
 pub mod Held
+pub mod Steps

@@ -6,4 +6,6 @@ pub mod scan;
 pub mod scope;
 pub mod scoping;
 pub mod signs;
+pub mod tables;
+pub mod terms;
 pub mod types;
