@@ -6,3 +6,4 @@ pub mod NameSteps
 pub mod FirstSteps
 pub mod HeadSteps
 pub mod TermSteps
+pub mod ReadSteps

@@ -33,7 +33,7 @@ entered x s = map-append (λ (y : InForce). y .binder) (s .force) (record { bind
 pub entered-two : (x y : Binder) (s : Names) → bindersOf (enter y (enter x s) .force) ≡ bindersOf (s .force) ++ (x ∷ y ∷ [])
 entered-two x y s = entered y (enter x s) ∙ ap (λ (b : List Binder). b ++ (y ∷ [])) (entered x s) ∙ append-assoc (bindersOf (s .force)) (x ∷ []) (y ∷ [])
 
-force-length : (s r : Names) → bindersOf (r .force) ≡ bindersOf (s .force) → length (r .force) ≡ length (s .force)
+pub force-length : (s r : Names) → bindersOf (r .force) ≡ bindersOf (s .force) → length (r .force) ≡ length (s .force)
 force-length s r k = sym (length-map (r .force) (λ (x : InForce). x .binder)) ∙ ap length k ∙ length-map (s .force) (λ (x : InForce). x .binder)
 
 -- there is room for the parts of a sub-term that was counted
@@ -46,6 +46,17 @@ module _ (d : ℕ) (subs : List Subterm) (cells : List TypeCell) (names : Names)
 
   pub room-pair : (x y : Binder) → Room (d + 1) subs cells (declare y (declare x names))
   room-pair x y = record { few = omega arith; signs = room .signs; bound = omega (arith, room .bound, length-append (names .bound) (x .name ∷ []), length-append (names .bound ++ (x .name ∷ [])) (y .name ∷ [])); force = omega (arith, room .force) }
+
+pub room-let : (d : ℕ) (subs : List Subterm) (cells : List TypeCell) (names : Names) (x y : Binder) → length subs + (d + 1) ≤ 2048 → length cells ≤ 2048 → length (names .bound) ≤ 2 * (length subs + (d + 1)) → length (names .force) ≤ 2 * d → Room (d + 1) subs cells (enter y (enter x names))
+room-let d subs cells names x y few signs bound force = record { few = few; signs = signs; bound = bound; force = omega (arith, length-append (names .force) (record { binder = x; used = false } ∷ []), length-append (names .force ++ (record { binder = x; used = false } ∷ [])) (record { binder = y; used = false } ∷ [])) }
+
+pub visit-occ : (p : ℕ) (w : Name) (s : Names) → visit (occ p w) s ≡ occur p w s
+unfolding visit
+visit-occ p w s = refl
+
+pub visit-num : (p n : ℕ) (s : Names) → visit (num p n) s ≡ s
+unfolding visit
+visit-num p n s = refl
 
 -- and for the next part, after one
 pub room-next : (d : ℕ) (subs : List Subterm) (cells : List TypeCell) (names : Names) (subs′ : List Subterm) (cells′ : List TypeCell) (names′ : Names) (a : Tree Name × ℕ × ℕ) (i h : ℕ) → TermHeld d subs cells names subs′ cells′ names′ a i → bindersOf (names′ .force) ≡ bindersOf (names .force) → length (names .force) ≤ h → h ≤ 2 * d → Room d subs′ cells′ names′
