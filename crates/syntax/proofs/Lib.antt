@@ -1,4 +1,3 @@
-pub mod Examples
 pub mod Lexing
 pub mod Scanning
 pub mod TypeSteps
@@ -7,3 +6,5 @@ pub mod FirstSteps
 pub mod HeadSteps
 pub mod TermSteps
 pub mod ReadSteps
+pub mod LayoutSteps
+pub mod WholeSteps
