@@ -3,3 +3,10 @@ pub mod Lexing
 pub mod Scanning
 pub mod TypeSteps
 pub mod NameSteps
+pub mod FirstSteps
+pub mod HeadSteps
+pub mod TermSteps
+pub mod ReadSteps
+pub mod LayoutSteps
+pub mod WholeSteps
+pub mod Agreement
