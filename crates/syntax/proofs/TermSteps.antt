@@ -38,9 +38,6 @@ force-length s r k = sym (length-map (r .force) (λ (x : InForce). x .binder)) �
 
 -- there is room for the parts of a sub-term that was counted
 module _ (d : ℕ) (subs : List Subterm) (cells : List TypeCell) (names : Names) (room : Room d subs cells names) (few : length subs + d < 2048) where
-  pub room-part : Room (d + 1) subs cells names
-  room-part = record { few = omega arith; signs = room .signs; bound = omega (arith, room .bound); force = omega (arith, room .force) }
-
   pub room-body : (x : Binder) (cells′ : List TypeCell) → length cells′ ≤ 2048 → Room (d + 1) subs cells′ (enter x (declare x names))
   room-body x cells′ h = record { few = omega arith; signs = h; bound = omega (arith, room .bound, length-append (names .bound) (x .name ∷ [])); force = omega (arith, room .force, length-append (names .force) (record { binder = x; used = false } ∷ [])) }
 

@@ -22,7 +22,7 @@ pub struct Program {
 #[derive(Drop)]
 pub struct Tables {
     pub program: Program,
-    pub scope: Scope,
+    pub(crate) scope: Scope,
 }
 
 impl Tables {

@@ -4,11 +4,10 @@ ghost use mathlib.Core.Path.{_≡_};
 ghost use Prim.Native.Nat.{ℕ, suc, _+_, _-_, _<_, _≤_};
 ghost use lib.ListN.{length};
 ghost use Rattle.std.specs.Of.Vec.{vec-items, vec-len, vec-cap};
-ghost use Rattle.syntax.specs.Held.{namesOf, bindersOf};
 ghost use Rattle.syntax.specs.Layout.{push};
 ghost use Rattle.syntax.specs.Parse.{term as terms, successor as successors, function as functions, application as applications, couple, letIn, iterator as iterators};
 ghost use Rattle.syntax.specs.Signs.{lex};
-ghost use Rattle.syntax.specs.Steps.{Gives, TermHeld, Room};
+ghost use Rattle.syntax.specs.Steps.{TermGives, HasRoom, begun, signed, inForceIn};
 use crate::names::First;
 use crate::program::Shape;
 use crate::program::Subterm;
@@ -46,9 +45,9 @@ fn put(program: &mut Program, place: usize, shape: Shape) -> usize
 
 // Reads a term inside `depth` others. Whatever it answers, the names in force are again those that were.
 pub fn term<'a>(text: &'a [u8], end: usize, depth: usize, program: &mut Program, scope: &mut Scope) -> Result<(usize, &'a [u8]), Refusal>
-    requires { ⌜ Room depth (vec-items (now program .subterms)) (vec-items (now program .types)) (namesOf (now scope)) ⌝ }
-    ensures gives { λ r. ⌜ Gives end (TermHeld depth (vec-items (now (program .entry) .subterms)) (vec-items (now (program .entry) .types)) (namesOf (now (scope .entry))) (vec-items (now (program .exit) .subterms)) (vec-items (now (program .exit) .types)) (namesOf (now (scope .exit)))) (terms end (128 - depth) (length (vec-items (now (program .entry) .subterms)) + depth) (length (vec-items (now (program .entry) .types))) (lex end (now (text .entry)))) r ⌝ }
-    ensures kept { λ _. ⌜ bindersOf (namesOf (now (scope .exit)) .force) ≡ bindersOf (namesOf (now (scope .entry)) .force) ⌝ }
+    requires { ⌜ HasRoom depth (now program) (now scope) ⌝ }
+    ensures gives { λ r. ⌜ TermGives end depth (now (program .entry)) (now (scope .entry)) (now (program .exit)) (now (scope .exit)) (terms end (128 - depth) (begun depth (now (program .entry))) (signed (now (program .entry))) (lex end (now (text .entry)))) r ⌝ }
+    ensures kept { λ _. ⌜ inForceIn (now (scope .exit)) ≡ inForceIn (now (scope .entry)) ⌝ }
 {
     let text = skip(text);
     let place = place_of(end, text);
@@ -73,11 +72,11 @@ pub fn term<'a>(text: &'a [u8], end: usize, depth: usize, program: &mut Program,
 
 // Reads `t` after `S`.
 fn successor<'a>(text: &'a [u8], end: usize, place: usize, depth: usize, program: &mut Program, scope: &mut Scope) -> Result<(usize, &'a [u8]), Refusal>
-    requires room { ⌜ Room depth (vec-items (now program .subterms)) (vec-items (now program .types)) (namesOf (now scope)) ⌝ }
+    requires room { ⌜ HasRoom depth (now program) (now scope) ⌝ }
     requires deep { ⌜ depth < 128 ⌝ }
-    requires few { ⌜ length (vec-items (now program .subterms)) + depth < 2048 ⌝ }
-    ensures gives { λ r. ⌜ Gives end (TermHeld depth (vec-items (now (program .entry) .subterms)) (vec-items (now (program .entry) .types)) (namesOf (now (scope .entry))) (vec-items (now (program .exit) .subterms)) (vec-items (now (program .exit) .types)) (namesOf (now (scope .exit)))) (successors (terms end (128 - (depth + 1))) place (suc (length (vec-items (now (program .entry) .subterms)) + depth)) (length (vec-items (now (program .entry) .types))) (lex end (now (text .entry)))) r ⌝ }
-    ensures kept { λ _. ⌜ bindersOf (namesOf (now (scope .exit)) .force) ≡ bindersOf (namesOf (now (scope .entry)) .force) ⌝ }
+    requires few { ⌜ begun depth (now program) < 2048 ⌝ }
+    ensures gives { λ r. ⌜ TermGives end depth (now (program .entry)) (now (scope .entry)) (now (program .exit)) (now (scope .exit)) (successors (terms end (128 - (depth + 1))) place (suc (begun depth (now (program .entry)))) (signed (now (program .entry))) (lex end (now (text .entry)))) r ⌝ }
+    ensures kept { λ _. ⌜ inForceIn (now (scope .exit)) ≡ inForceIn (now (scope .entry)) ⌝ }
 {
     let (body, rest) = term(text, end, depth + 1, program, scope)?;
     Ok((put(program, place, Shape::Successor(body)), rest))
@@ -85,11 +84,11 @@ fn successor<'a>(text: &'a [u8], end: usize, place: usize, depth: usize, program
 
 // Reads `x:T.t` after a backslash.
 fn function<'a>(text: &'a [u8], end: usize, place: usize, depth: usize, program: &mut Program, scope: &mut Scope) -> Result<(usize, &'a [u8]), Refusal>
-    requires room { ⌜ Room depth (vec-items (now program .subterms)) (vec-items (now program .types)) (namesOf (now scope)) ⌝ }
+    requires room { ⌜ HasRoom depth (now program) (now scope) ⌝ }
     requires deep { ⌜ depth < 128 ⌝ }
-    requires few { ⌜ length (vec-items (now program .subterms)) + depth < 2048 ⌝ }
-    ensures gives { λ r. ⌜ Gives end (TermHeld depth (vec-items (now (program .entry) .subterms)) (vec-items (now (program .entry) .types)) (namesOf (now (scope .entry))) (vec-items (now (program .exit) .subterms)) (vec-items (now (program .exit) .types)) (namesOf (now (scope .exit)))) (functions end (terms end (128 - (depth + 1))) place (suc (length (vec-items (now (program .entry) .subterms)) + depth)) (length (vec-items (now (program .entry) .types))) (lex end (now (text .entry)))) r ⌝ }
-    ensures kept { λ _. ⌜ bindersOf (namesOf (now (scope .exit)) .force) ≡ bindersOf (namesOf (now (scope .entry)) .force) ⌝ }
+    requires few { ⌜ begun depth (now program) < 2048 ⌝ }
+    ensures gives { λ r. ⌜ TermGives end depth (now (program .entry)) (now (scope .entry)) (now (program .exit)) (now (scope .exit)) (functions end (terms end (128 - (depth + 1))) place (suc (begun depth (now (program .entry)))) (signed (now (program .entry))) (lex end (now (text .entry)))) r ⌝ }
+    ensures kept { λ _. ⌜ inForceIn (now (scope .exit)) ≡ inForceIn (now (scope .entry)) ⌝ }
 {
     let (head, rest) = function_head(text, end, &mut program.types)?;
     let before = scope.in_force.len();
@@ -104,11 +103,11 @@ fn function<'a>(text: &'a [u8], end: usize, place: usize, depth: usize, program:
 
 // Reads `t u)` after a bracket.
 fn application<'a>(text: &'a [u8], end: usize, place: usize, depth: usize, program: &mut Program, scope: &mut Scope) -> Result<(usize, &'a [u8]), Refusal>
-    requires room { ⌜ Room depth (vec-items (now program .subterms)) (vec-items (now program .types)) (namesOf (now scope)) ⌝ }
+    requires room { ⌜ HasRoom depth (now program) (now scope) ⌝ }
     requires deep { ⌜ depth < 128 ⌝ }
-    requires few { ⌜ length (vec-items (now program .subterms)) + depth < 2048 ⌝ }
-    ensures gives { λ r. ⌜ Gives end (TermHeld depth (vec-items (now (program .entry) .subterms)) (vec-items (now (program .entry) .types)) (namesOf (now (scope .entry))) (vec-items (now (program .exit) .subterms)) (vec-items (now (program .exit) .types)) (namesOf (now (scope .exit)))) (applications end (terms end (128 - (depth + 1))) place (suc (length (vec-items (now (program .entry) .subterms)) + depth)) (length (vec-items (now (program .entry) .types))) (lex end (now (text .entry)))) r ⌝ }
-    ensures kept { λ _. ⌜ bindersOf (namesOf (now (scope .exit)) .force) ≡ bindersOf (namesOf (now (scope .entry)) .force) ⌝ }
+    requires few { ⌜ begun depth (now program) < 2048 ⌝ }
+    ensures gives { λ r. ⌜ TermGives end depth (now (program .entry)) (now (scope .entry)) (now (program .exit)) (now (scope .exit)) (applications end (terms end (128 - (depth + 1))) place (suc (begun depth (now (program .entry)))) (signed (now (program .entry))) (lex end (now (text .entry)))) r ⌝ }
+    ensures kept { λ _. ⌜ inForceIn (now (scope .exit)) ≡ inForceIn (now (scope .entry)) ⌝ }
 {
     let (function, rest) = term(text, end, depth + 1, program, scope)?;
     let (argument, rest) = term(rest, end, depth + 1, program, scope)?;
@@ -118,11 +117,11 @@ fn application<'a>(text: &'a [u8], end: usize, place: usize, depth: usize, progr
 
 // Reads `t,u>` after `<`.
 fn pair<'a>(text: &'a [u8], end: usize, place: usize, depth: usize, program: &mut Program, scope: &mut Scope) -> Result<(usize, &'a [u8]), Refusal>
-    requires room { ⌜ Room depth (vec-items (now program .subterms)) (vec-items (now program .types)) (namesOf (now scope)) ⌝ }
+    requires room { ⌜ HasRoom depth (now program) (now scope) ⌝ }
     requires deep { ⌜ depth < 128 ⌝ }
-    requires few { ⌜ length (vec-items (now program .subterms)) + depth < 2048 ⌝ }
-    ensures gives { λ r. ⌜ Gives end (TermHeld depth (vec-items (now (program .entry) .subterms)) (vec-items (now (program .entry) .types)) (namesOf (now (scope .entry))) (vec-items (now (program .exit) .subterms)) (vec-items (now (program .exit) .types)) (namesOf (now (scope .exit)))) (couple end (terms end (128 - (depth + 1))) place (suc (length (vec-items (now (program .entry) .subterms)) + depth)) (length (vec-items (now (program .entry) .types))) (lex end (now (text .entry)))) r ⌝ }
-    ensures kept { λ _. ⌜ bindersOf (namesOf (now (scope .exit)) .force) ≡ bindersOf (namesOf (now (scope .entry)) .force) ⌝ }
+    requires few { ⌜ begun depth (now program) < 2048 ⌝ }
+    ensures gives { λ r. ⌜ TermGives end depth (now (program .entry)) (now (scope .entry)) (now (program .exit)) (now (scope .exit)) (couple end (terms end (128 - (depth + 1))) place (suc (begun depth (now (program .entry)))) (signed (now (program .entry))) (lex end (now (text .entry)))) r ⌝ }
+    ensures kept { λ _. ⌜ inForceIn (now (scope .exit)) ≡ inForceIn (now (scope .entry)) ⌝ }
 {
     let (first, rest) = term(text, end, depth + 1, program, scope)?;
     let rest = expect(rest, end, b',')?;
@@ -133,11 +132,11 @@ fn pair<'a>(text: &'a [u8], end: usize, place: usize, depth: usize, program: &mu
 
 // Reads `<x,y> = t in u` after the word `let`.
 fn let_in<'a>(text: &'a [u8], end: usize, place: usize, depth: usize, program: &mut Program, scope: &mut Scope) -> Result<(usize, &'a [u8]), Refusal>
-    requires room { ⌜ Room depth (vec-items (now program .subterms)) (vec-items (now program .types)) (namesOf (now scope)) ⌝ }
+    requires room { ⌜ HasRoom depth (now program) (now scope) ⌝ }
     requires deep { ⌜ depth < 128 ⌝ }
-    requires few { ⌜ length (vec-items (now program .subterms)) + depth < 2048 ⌝ }
-    ensures gives { λ r. ⌜ Gives end (TermHeld depth (vec-items (now (program .entry) .subterms)) (vec-items (now (program .entry) .types)) (namesOf (now (scope .entry))) (vec-items (now (program .exit) .subterms)) (vec-items (now (program .exit) .types)) (namesOf (now (scope .exit)))) (letIn end (terms end (128 - (depth + 1))) place (suc (length (vec-items (now (program .entry) .subterms)) + depth)) (length (vec-items (now (program .entry) .types))) (lex end (now (text .entry)))) r ⌝ }
-    ensures kept { λ _. ⌜ bindersOf (namesOf (now (scope .exit)) .force) ≡ bindersOf (namesOf (now (scope .entry)) .force) ⌝ }
+    requires few { ⌜ begun depth (now program) < 2048 ⌝ }
+    ensures gives { λ r. ⌜ TermGives end depth (now (program .entry)) (now (scope .entry)) (now (program .exit)) (now (scope .exit)) (letIn end (terms end (128 - (depth + 1))) place (suc (begun depth (now (program .entry)))) (signed (now (program .entry))) (lex end (now (text .entry)))) r ⌝ }
+    ensures kept { λ _. ⌜ inForceIn (now (scope .exit)) ≡ inForceIn (now (scope .entry)) ⌝ }
 {
     let ((first, second), rest) = let_head(text, end)?;
     declare(scope, first);
@@ -156,11 +155,11 @@ fn let_in<'a>(text: &'a [u8], end: usize, place: usize, depth: usize, program: &
 
 // Reads `t u v` after the word `iter`.
 fn iterator<'a>(text: &'a [u8], end: usize, place: usize, depth: usize, program: &mut Program, scope: &mut Scope) -> Result<(usize, &'a [u8]), Refusal>
-    requires room { ⌜ Room depth (vec-items (now program .subterms)) (vec-items (now program .types)) (namesOf (now scope)) ⌝ }
+    requires room { ⌜ HasRoom depth (now program) (now scope) ⌝ }
     requires deep { ⌜ depth < 128 ⌝ }
-    requires few { ⌜ length (vec-items (now program .subterms)) + depth < 2048 ⌝ }
-    ensures gives { λ r. ⌜ Gives end (TermHeld depth (vec-items (now (program .entry) .subterms)) (vec-items (now (program .entry) .types)) (namesOf (now (scope .entry))) (vec-items (now (program .exit) .subterms)) (vec-items (now (program .exit) .types)) (namesOf (now (scope .exit)))) (iterators (terms end (128 - (depth + 1))) place (suc (length (vec-items (now (program .entry) .subterms)) + depth)) (length (vec-items (now (program .entry) .types))) (lex end (now (text .entry)))) r ⌝ }
-    ensures kept { λ _. ⌜ bindersOf (namesOf (now (scope .exit)) .force) ≡ bindersOf (namesOf (now (scope .entry)) .force) ⌝ }
+    requires few { ⌜ begun depth (now program) < 2048 ⌝ }
+    ensures gives { λ r. ⌜ TermGives end depth (now (program .entry)) (now (scope .entry)) (now (program .exit)) (now (scope .exit)) (iterators (terms end (128 - (depth + 1))) place (suc (begun depth (now (program .entry)))) (signed (now (program .entry))) (lex end (now (text .entry)))) r ⌝ }
+    ensures kept { λ _. ⌜ inForceIn (now (scope .exit)) ≡ inForceIn (now (scope .entry)) ⌝ }
 {
     let (count, rest) = term(text, end, depth + 1, program, scope)?;
     let (step, rest) = term(rest, end, depth + 1, program, scope)?;

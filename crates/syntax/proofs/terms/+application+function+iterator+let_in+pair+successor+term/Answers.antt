@@ -20,7 +20,7 @@ use Rattle.syntax.specs.Steps.{binderAt, Room}
 use Rattle.syntax.proofs.Lexing.{skipped-twice}
 use Rattle.syntax.proofs.HeadSteps.{both-are}
 use Rattle.syntax.proofs.ReadSteps.{gives-by, held-as, held-from, first-refused, first-full, first-read, succ-read, app-read, pair-read, iter-read, let-read, function-read, function-stops, let-stops, occur-bound, occur-kept}
-use Rattle.syntax.proofs.TermSteps.{kept-shut, entered, entered-two, force-length, room-part, room-body, room-pair, room-let, room-next, held-leaf, held-succ, held-app, held-pair, held-iter, held-function, held-let, visit-occ, visit-num}
+use Rattle.syntax.proofs.TermSteps.{kept-shut, entered, entered-two, force-length, room-body, room-pair, room-let, room-next, held-leaf, held-succ, held-app, held-pair, held-iter, held-function, held-let, visit-occ, visit-num}
 use Rattle.syntax.proofs.terms.+application+function+iterator+let_in+pair+successor+term.Needs as need
 use Rattle.syntax.proofs.terms.+application+function+iterator+let_in+pair+successor+term.Needs.{term-then-depth-ge-DEPTH·by·then-depth-ge-DEPTH, term-then-depth-ge-DEPTH·by·else-depth-ge-DEPTH·then-len-depth-ge-SUBTERMS}
 
