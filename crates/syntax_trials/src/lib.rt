@@ -22,7 +22,13 @@ mod tests {
     fn accepted(tables: &mut Tables, text: &[u8], subterms: usize) -> Result<(), Fail> {
         match read(text, tables) {
             Ok(_) => check_eq(tables.program.subterms.len(), subterms),
-            Err(refusal) => check_eq(refusal, Refusal { fault: Fault::TooLong, place: 1 }),
+            Err(refusal) => check_eq(
+                refusal,
+                Refusal {
+                    fault: Fault::TooLong,
+                    place: 1,
+                },
+            ),
         }
     }
 
@@ -35,7 +41,14 @@ mod tests {
     }
 
     // What `open`, a middle and `close` make of `levels` doublings of one sign.
-    fn doubled(heap: Global, levels: u32, sign: u8, open: u8, middle: u8, close: u8) -> Result<Vec<u8>, AllocError> {
+    fn doubled(
+        heap: Global,
+        levels: u32,
+        sign: u8,
+        open: u8,
+        middle: u8,
+        close: u8,
+    ) -> Result<Vec<u8>, AllocError> {
         let mut text = Vec::new(heap);
         text.push(sign)?;
         for _ in 0..levels {
@@ -107,11 +120,17 @@ mod tests {
         let mut deeper = repeat(heap, 128, b'S')?;
         deeper.push(b'0')?;
         refused(t, &deeper, Fault::PassedLimit, 128)?;
-        let mut types = repeat(heap, 64, b'(')?;
-        types.extend_from_slice(b"N")?;
         let mut text = Vec::new(heap);
         text.extend_from_slice(b"\\x:")?;
-        text.extend_from_slice(&types)?;
+        text.extend_from_slice(&repeat(heap, 63, b'(')?)?;
+        text.push(b'N')?;
+        for _ in 0..63 {
+            text.extend_from_slice(b">N)")?;
+        }
+        text.extend_from_slice(b".x")?;
+        accepted(t, &text, 2)?;
+        text.truncate(66);
+        text.extend_from_slice(b"(N")?;
         refused(t, &text, Fault::PassedLimit, 67)
     }
 
