@@ -20,15 +20,16 @@ use crate::scan::passed_limit;
 use crate::scan::place_of;
 use crate::scan::skip;
 use crate::scope::Scope;
+use crate::scoping::Guard;
 use crate::scoping::declare;
 use crate::scoping::enter;
 use crate::scoping::occur;
 use crate::scoping::settle;
-use crate::scoping::Guard;
 use crate::tables::Program;
 use crate::types::function_head;
 
 const DEPTH: usize = 128;
+
 const SUBTERMS: usize = 2048;
 
 // Puts a sub-term after the others.
@@ -44,7 +45,13 @@ fn put(program: &mut Program, place: usize, shape: Shape) -> usize
 }
 
 // Reads a term inside `depth` others. Whatever it answers, the names in force are again those that were.
-pub fn term<'a>(text: &'a [u8], end: usize, depth: usize, program: &mut Program, scope: &mut Scope) -> Result<(usize, &'a [u8]), Refusal>
+pub fn term<'a>(
+    text: &'a [u8],
+    end: usize,
+    depth: usize,
+    program: &mut Program,
+    scope: &mut Scope,
+) -> Result<(usize, &'a [u8]), Refusal>
     requires { ⌜ HasRoom depth (now program) (now scope) ⌝ }
     ensures gives { λ r. ⌜ TermGives end depth (now (program .entry)) (now (scope .entry)) (now (program .exit)) (now (scope .exit)) (terms end (128 - depth) (begun depth (now (program .entry))) (signed (now (program .entry))) (lex end (now (text .entry)))) r ⌝ }
     ensures kept { λ _. ⌜ inForceIn (now (scope .exit)) ≡ inForceIn (now (scope .entry)) ⌝ }
@@ -71,7 +78,14 @@ pub fn term<'a>(text: &'a [u8], end: usize, depth: usize, program: &mut Program,
 }
 
 // Reads `t` after `S`.
-fn successor<'a>(text: &'a [u8], end: usize, place: usize, depth: usize, program: &mut Program, scope: &mut Scope) -> Result<(usize, &'a [u8]), Refusal>
+fn successor<'a>(
+    text: &'a [u8],
+    end: usize,
+    place: usize,
+    depth: usize,
+    program: &mut Program,
+    scope: &mut Scope,
+) -> Result<(usize, &'a [u8]), Refusal>
     requires room { ⌜ HasRoom depth (now program) (now scope) ⌝ }
     requires deep { ⌜ depth < 128 ⌝ }
     requires few { ⌜ begun depth (now program) < 2048 ⌝ }
@@ -83,7 +97,14 @@ fn successor<'a>(text: &'a [u8], end: usize, place: usize, depth: usize, program
 }
 
 // Reads `x:T.t` after a backslash.
-fn function<'a>(text: &'a [u8], end: usize, place: usize, depth: usize, program: &mut Program, scope: &mut Scope) -> Result<(usize, &'a [u8]), Refusal>
+fn function<'a>(
+    text: &'a [u8],
+    end: usize,
+    place: usize,
+    depth: usize,
+    program: &mut Program,
+    scope: &mut Scope,
+) -> Result<(usize, &'a [u8]), Refusal>
     requires room { ⌜ HasRoom depth (now program) (now scope) ⌝ }
     requires deep { ⌜ depth < 128 ⌝ }
     requires few { ⌜ begun depth (now program) < 2048 ⌝ }
@@ -97,12 +118,23 @@ fn function<'a>(text: &'a [u8], end: usize, place: usize, depth: usize, program:
     let guard = Guard(scope, before);
     let (body, rest) = term(rest, end, depth + 1, program, &mut *guard.0)?;
     settle(&mut *guard.0, before);
-    let shape = Shape::Function { binder: head.binder.place, annotation: head.annotation, body };
+    let shape = Shape::Function {
+        binder: head.binder.place,
+        annotation: head.annotation,
+        body,
+    };
     Ok((put(program, place, shape), rest))
 }
 
 // Reads `t u)` after a bracket.
-fn application<'a>(text: &'a [u8], end: usize, place: usize, depth: usize, program: &mut Program, scope: &mut Scope) -> Result<(usize, &'a [u8]), Refusal>
+fn application<'a>(
+    text: &'a [u8],
+    end: usize,
+    place: usize,
+    depth: usize,
+    program: &mut Program,
+    scope: &mut Scope,
+) -> Result<(usize, &'a [u8]), Refusal>
     requires room { ⌜ HasRoom depth (now program) (now scope) ⌝ }
     requires deep { ⌜ depth < 128 ⌝ }
     requires few { ⌜ begun depth (now program) < 2048 ⌝ }
@@ -112,11 +144,21 @@ fn application<'a>(text: &'a [u8], end: usize, place: usize, depth: usize, progr
     let (function, rest) = term(text, end, depth + 1, program, scope)?;
     let (argument, rest) = term(rest, end, depth + 1, program, scope)?;
     let rest = expect(rest, end, b')')?;
-    Ok((put(program, place, Shape::Application(function, argument)), rest))
+    Ok((
+        put(program, place, Shape::Application(function, argument)),
+        rest,
+    ))
 }
 
 // Reads `t,u>` after `<`.
-fn pair<'a>(text: &'a [u8], end: usize, place: usize, depth: usize, program: &mut Program, scope: &mut Scope) -> Result<(usize, &'a [u8]), Refusal>
+fn pair<'a>(
+    text: &'a [u8],
+    end: usize,
+    place: usize,
+    depth: usize,
+    program: &mut Program,
+    scope: &mut Scope,
+) -> Result<(usize, &'a [u8]), Refusal>
     requires room { ⌜ HasRoom depth (now program) (now scope) ⌝ }
     requires deep { ⌜ depth < 128 ⌝ }
     requires few { ⌜ begun depth (now program) < 2048 ⌝ }
@@ -131,7 +173,14 @@ fn pair<'a>(text: &'a [u8], end: usize, place: usize, depth: usize, program: &mu
 }
 
 // Reads `<x,y> = t in u` after the word `let`.
-fn let_in<'a>(text: &'a [u8], end: usize, place: usize, depth: usize, program: &mut Program, scope: &mut Scope) -> Result<(usize, &'a [u8]), Refusal>
+fn let_in<'a>(
+    text: &'a [u8],
+    end: usize,
+    place: usize,
+    depth: usize,
+    program: &mut Program,
+    scope: &mut Scope,
+) -> Result<(usize, &'a [u8]), Refusal>
     requires room { ⌜ HasRoom depth (now program) (now scope) ⌝ }
     requires deep { ⌜ depth < 128 ⌝ }
     requires few { ⌜ begun depth (now program) < 2048 ⌝ }
@@ -149,12 +198,24 @@ fn let_in<'a>(text: &'a [u8], end: usize, place: usize, depth: usize, program: &
     let guard = Guard(scope, before);
     let (body, rest) = term(rest, end, depth + 1, program, &mut *guard.0)?;
     settle(&mut *guard.0, before);
-    let shape = Shape::Let { first: first.place, second: second.place, pair, body };
+    let shape = Shape::Let {
+        first: first.place,
+        second: second.place,
+        pair,
+        body,
+    };
     Ok((put(program, place, shape), rest))
 }
 
 // Reads `t u v` after the word `iter`.
-fn iterator<'a>(text: &'a [u8], end: usize, place: usize, depth: usize, program: &mut Program, scope: &mut Scope) -> Result<(usize, &'a [u8]), Refusal>
+fn iterator<'a>(
+    text: &'a [u8],
+    end: usize,
+    place: usize,
+    depth: usize,
+    program: &mut Program,
+    scope: &mut Scope,
+) -> Result<(usize, &'a [u8]), Refusal>
     requires room { ⌜ HasRoom depth (now program) (now scope) ⌝ }
     requires deep { ⌜ depth < 128 ⌝ }
     requires few { ⌜ begun depth (now program) < 2048 ⌝ }
@@ -164,5 +225,8 @@ fn iterator<'a>(text: &'a [u8], end: usize, place: usize, depth: usize, program:
     let (count, rest) = term(text, end, depth + 1, program, scope)?;
     let (step, rest) = term(rest, end, depth + 1, program, scope)?;
     let (base, rest) = term(rest, end, depth + 1, program, scope)?;
-    Ok((put(program, place, Shape::Iterator { count, step, base }), rest))
+    Ok((
+        put(program, place, Shape::Iterator { count, step, base }),
+        rest,
+    ))
 }
