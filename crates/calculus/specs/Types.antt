@@ -9,7 +9,6 @@ pub data Ty : Type 0 where
 
 infixr 60 _⇒_
 infixr 60 _⊗_
-
 -- N has height 0, another type one more than its higher part
 abbrev pub height : Ty → ℕ
 height N = 0
