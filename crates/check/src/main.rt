@@ -37,3 +37,6 @@ fn main(rt: LibcRuntime) -> Result<(), AnyError> {
         Err(refusal) => refuse(&rt, refusal),
     }
 }
+
+#[cfg(test)]
+mod tests;
