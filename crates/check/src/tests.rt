@@ -46,7 +46,10 @@ fn refusals(rt: LibcRuntime) -> Result<(), Fail> {
     let mut workspace = Workspace::new(rt.alloc())?;
     for case in 0..16 {
         let (text, fault, place) = refusal(case);
-        check_eq(refused(&mut workspace, text), Some(Refusal { fault, place }))?;
+        check_eq(
+            refused(&mut workspace, text),
+            Some(Refusal { fault, place }),
+        )?;
     }
     Ok(())
 }
@@ -90,7 +93,13 @@ fn double(text: &mut Vec<u8>, signs: [u8; 3]) -> Result<(), AllocError> {
 }
 
 // `leaf` doubled ten times, with this before it and after it.
-fn wide(heap: Global, front: &[u8], leaf: u8, signs: [u8; 3], back: &[u8]) -> Result<Vec<u8>, AllocError> {
+fn wide(
+    heap: Global,
+    front: &[u8],
+    leaf: u8,
+    signs: [u8; 3],
+    back: &[u8],
+) -> Result<Vec<u8>, AllocError> {
     let mut inner = Vec::from_slice(heap, &[leaf])?;
     for _ in 0..10 {
         double(&mut inner, signs)?;
@@ -171,7 +180,16 @@ fn limits(rt: LibcRuntime) -> Result<(), Fail> {
 fn counts(rt: LibcRuntime) -> Result<(), Fail> {
     let mut workspace = Workspace::new(rt.alloc())?;
     match workspace.check(b"let <x,y> = <\\z:N.z,7> in (x y)") {
-        Ok(program) => check_eq(program.facts, Facts { subterms: 8, iterators: 0, successors: 0, height: 2, weight: 11 }),
+        Ok(program) => check_eq(
+            program.facts,
+            Facts {
+                subterms: 8,
+                iterators: 0,
+                successors: 0,
+                height: 2,
+                weight: 11,
+            },
+        ),
         Err(_) => Err(Fail::new("refused")),
     }
 }
