@@ -1,0 +1,4 @@
+mod Contexts
+mod Unique
+mod Rules
+mod Inferred

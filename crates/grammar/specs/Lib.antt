@@ -1,0 +1,4 @@
+pub mod Uses
+pub mod Derivations
+pub mod Faults
+pub mod Typings

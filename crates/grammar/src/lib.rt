@@ -1,0 +1,12 @@
+// The theorems above reading and checking: what is accepted is what the grammar spells and the linear typing rules derive.
+ghost use Rattle.grammar.specs.Typings.{InferredDerived, DerivedInferred, DerivedLinear, FirstFault, UniqueTypes};
+
+// Types are inferred exactly as the linear rules give them, and the first fault is the one reported.
+pub fn types_inferred_exactly()
+    ensures inferred { λ _. ⌜ InferredDerived ⌝ }
+    ensures derived { λ _. ⌜ DerivedInferred ⌝ }
+    ensures linear { λ _. ⌜ DerivedLinear ⌝ }
+    ensures first { λ _. ⌜ FirstFault ⌝ }
+    ensures unique { λ _. ⌜ UniqueTypes ⌝ }
+{
+}
