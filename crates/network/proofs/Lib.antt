@@ -1,0 +1,4 @@
+pub mod Uses
+pub mod Sizes
+pub mod Opened
+pub mod Counting

@@ -1,0 +1,3 @@
+// From a checked program to its network, in cells that the host lends.
+pub mod part;
+pub mod plan;
