@@ -148,3 +148,7 @@ own-among parts i (iter t u v) p e (j, k, q, h, l, m, n, d, f, g) = subst (λ (r
 -- the free uses of a part, as they were counted
 pub uses-are : (parts : List Part) (i : ℕ) (t : Term) (p : Part) → getD parts i noPart ≡ p → Holds parts i t → p .count .uses ≡ length (free t)
 uses-are parts i t p e h = ap (λ (q : Part). q .count .uses) (sym e) ∙ ap (λ (q : Count). q .uses) (held parts i t h)
+
+-- and its nodes
+pub nodes-are : (parts : List Part) (i : ℕ) (t : Term) (p : Part) → getD parts i noPart ≡ p → Holds parts i t → p .count .nodes ≡ nodes t
+nodes-are parts i t p e h = ap (λ (q : Part). q .count .nodes) (sym e) ∙ ap (λ (q : Count). q .nodes) (held parts i t h)

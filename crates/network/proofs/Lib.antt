@@ -3,3 +3,7 @@ pub mod Sizes
 pub mod Opened
 pub mod Counting
 pub mod Laid
+pub mod Gathered
+pub mod Crossed
+pub mod Moved
+pub mod Wired

@@ -13,7 +13,7 @@ use Rattle.network.specs.declared.part.Part.{Part}
 use Rattle.network.specs.Parts.{noPart, counted, Is, Holds}
 
 -- the term is one of this shape, and its parts are those named
-abbrev Opened : List Part → ℕ → Shape → Term → Type 0
+abbrev pub Opened : List Part → ℕ → Shape → Term → Type 0
 Opened parts i (Variable x) t = t ≡ var x
 Opened parts i (Number n) t = t ≡ num n
 Opened parts i (Successor j) t = (a : Term) × (t ≡ succ a) × (j < i) × Holds parts j a
@@ -58,7 +58,7 @@ module _ (parts : List Part) (i : ℕ) where
   held (split x y t u) (j, k, h, l, m, d, f) = ap (λ p. p .count) (h .is)
   held (iter t u v) (j, k, q, h, l, m, n, d, f, g) = ap (λ p. p .count) (h .is)
 
-  shaped : (t : Term) (p : Part) (s : Shape) → getD parts i noPart ≡ p → p .shape ≡ s → Holds parts i t → Opened parts i s t
+  pub shaped : (t : Term) (p : Part) (s : Shape) → getD parts i noPart ≡ p → p .shape ≡ s → Holds parts i t → Opened parts i s t
   shaped t p s e f h = subst (λ r. Opened parts i r t) f (opened t p e h)
 
   -- what holds of every term of the shape holds of the part's
