@@ -1,21 +1,20 @@
 -- The rule of each construct: what is inferred from the types of the parts.
 use mathlib.Core.Path.{_≡_, refl, sym, ap, subst, _∙_}
-use mathlib.Core.Bool.{Bool, true, false, cond, _&&_}
+use mathlib.Core.Bool.{true, false, _&&_}
 use mathlib.Core.List.{_++_}
 use mathlib.Core.Logic.{_⊎_, inl, inr}
-use Prim.Native.Nat.{ℕ, _≤_, _<_, max}
+use Prim.Native.Nat.{ℕ, _≤_, _<_}
 use native.Mathlib.Omega.{arith}
-use lib.Dec.{eqb, leb}
-use Rattle.std.proofs.shelf.Tests.{le-leb, lt-leb, cases-lt, cases-bool, and-parts, and-from}
+use lib.Dec.{leb}
+use Rattle.std.proofs.shelf.Tests.{le-leb, lt-leb, cases-bool, and-parts}
 use Rattle.calculus.specs.Types.{Ty, N, _⇒_, _⊗_, height}
 use Rattle.calculus.specs.Terms.{Term, free, without}
 use Rattle.calculus.specs.Typing.{Ctx, Typed, ty-var, ty-num, ty-succ, ty-lam, ty-app, ty-pair, ty-split, ty-iter, tallest}
 use Rattle.syntax.specs.Trees.{Binder, Tree, occ, num, succ, lam, app, pair, split, iter, erase, placeOf}
-use Rattle.syntax.specs.declared.refusal.Fault.{Fault}
 use Rattle.syntax.specs.declared.refusal.Fault.the-variants.{IllTyped, HighType}
-use Rattle.language.specs.Infer.{same, Checked, good, bad, then, within, Env, put, succRule, appRule, splitRule, iterStep, iterRule, infer}
+use Rattle.language.specs.Infer.{same, good, bad, then, within, Env, put, splitRule, infer}
 use Rattle.grammar.specs.Uses.{count, Linear}
-use Rattle.grammar.specs.Derivations.{Derives, given, Has, Agrees}
+use Rattle.grammar.specs.Derivations.{given, Has, Agrees}
 use Rattle.grammar.specs.Faults.{Typable, Parts}
 use Rattle.grammar.proofs.Contexts.{given-append, given-agrees, agrees-left, agrees-right, agrees-put, pick-given, count-let}
 use Rattle.grammar.proofs.Unique.{alike}
@@ -47,8 +46,9 @@ within-high p A h = rw (lt-leb (height A) 64 h) refl
 
 within-typed : (p : ℕ) (A : Ty) (q : ℕ) → within p A ≡ bad IllTyped q → ⊥
 within-typed p A q h = elim (cases-bool (leb (height A) 64)) [
-    inl x ↦ (let g : good A ≡ bad IllTyped q = rw x at h in let z : _≡_ {A = ℕ} 0 1 = cc in omega arith)
-  | inr x ↦ (let g : bad HighType p ≡ bad IllTyped q = rw x at h in let z : _≡_ {A = ℕ} 0 1 = cc in omega arith) ]
+  | inl x ↦ (let g : good A ≡ bad IllTyped q = rw x at h in let z : _≡_ {A = ℕ} 0 1 = cc in omega arith)
+  | inr x ↦ (let g : bad HighType p ≡ bad IllTyped q = rw x at h in let z : _≡_ {A = ℕ} 0 1 = cc in omega arith)
+]
 
 -- with the types that the rule asks of the parts
 succ-forms : (e : Env) (p : ℕ) (t : Tree ℕ) → infer e t ≡ good N → infer e (succ p t) ≡ within p N
@@ -97,7 +97,7 @@ has-infers e t A h = complete t e (h .derived) (given-agrees e (free (erase t)))
 
 -- the type of a part in a derivation of the whole is the one that the part has
 as-derived : (e : Env) (t : Tree ℕ) (h : Typable e t) {Γ : Ctx} {A : Ty} → Typed Γ (erase t) A → Agrees e Γ → infer e t ≡ good A
-as-derived e t h d a = has-infers e t (h .0) (h .1) ∙ ap good (alike e (h .1 .derived) d (given-agrees e (free (erase t))) a .type)
+as-derived e t h d a = has-infers e t (h .0) (h .1) ∙ ap good (alike e t (h .1 .derived) d (given-agrees e (free (erase t))) a .type)
 
 -- parts that have types, and a type of the whole, whatever its height
 pub forms : (e : Env) (t : Tree ℕ) {Γ : Ctx} {A : Ty} → Typed Γ (erase t) A → Agrees e Γ → Parts e t → infer e t ≡ within (placeOf t) A
@@ -145,11 +145,12 @@ unfolding infer
 app-node e p t u N C h k = inr (rw (has-infers e t N h, has-infers e u C k) refl)
 app-node e p t u (A ⊗ B) C h k = inr (rw (has-infers e t (A ⊗ B) h, has-infers e u C k) refl)
 app-node e p t u (A ⇒ B) C h k = elim (cases-bool (same A C)) [
-    inl s ↦ (
+  | inl s ↦ (
       let k′ = subst (λ X. Has e u X) (sym (same-is A C s)) k in
       let f : Formed (given e (free (erase t)) ++ given e (free (erase u))) (erase (app p t u)) B = record { derived = ty-app (h .derived) (k′ .derived); rest = λ l. (let m = h .low in let n = k′ .low in omega arith) } in
       inl (B, subst (λ Γ. Formed Γ (erase (app p t u)) B) (sym (given-append e (free (erase t)) (free (erase u)))) f))
-  | inr s ↦ inr (rw (has-infers e t (A ⇒ B) h, has-infers e u C k, s) refl) ]
+  | inr s ↦ inr (rw (has-infers e t (A ⇒ B) h, has-infers e u C k, s) refl)
+]
 
 pair-node : (e : Env) (p : ℕ) (t u : Tree ℕ) (A B : Ty) → Has e t A → Has e u B → Node e (pair p t u)
 pair-node e p t u A B h k =
@@ -173,7 +174,7 @@ iter-node e p t u v (A ⊗ B) F C h k m = inr (rw (has-infers e t (A ⊗ B) h, h
 iter-node e p t u v N N C h k m = inr (rw (has-infers e t N h, has-infers e u N k, has-infers e v C m) refl)
 iter-node e p t u v N (A ⊗ B) C h k m = inr (rw (has-infers e t N h, has-infers e u (A ⊗ B) k, has-infers e v C m) refl)
 iter-node e p t u v N (A ⇒ B) C h k m = elim (cases-bool (same A B && same A C)) [
-    inl s ↦ (
+  | inl s ↦ (
       let q = and-parts (same A B) (same A C) s in
       let k′ = subst (λ X. Has e u (A ⇒ X)) (sym (same-is A B (q .0))) k in
       let k″ = subst (λ X. Has e u (X ⇒ X)) (same-is A C (q .1)) k′ in
@@ -183,7 +184,8 @@ iter-node e p t u v N (A ⇒ B) C h k m = elim (cases-bool (same A B && same A C
       let f : Formed (Γ ++ (Δ ++ Θ)) (erase (iter p t u v)) C = record { derived = ty-iter (h .derived) (k″ .derived) (m .derived); rest = λ l. (let x = h .low in let y = k″ .low in let z = m .low in omega arith) } in
       let g = given-append e (free (erase t)) (free (erase u) ++ free (erase v)) ∙ ap (λ w. Γ ++ w) (given-append e (free (erase u)) (free (erase v))) in
       inl (C, subst (λ w. Formed w (erase (iter p t u v)) C) (sym g) f))
-  | inr s ↦ inr (rw (has-infers e t N h, has-infers e u (A ⇒ B) k, has-infers e v C m, s) refl) ]
+  | inr s ↦ inr (rw (has-infers e t N h, has-infers e u (A ⇒ B) k, has-infers e v C m, s) refl)
+]
 
 pub node : (e : Env) (t : Tree ℕ) → Linear (erase t) → Parts e t → Node e t
 node e (occ p b) l k = inl (e b, record { derived = ty-var; rest = λ h. h })

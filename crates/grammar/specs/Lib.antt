@@ -2,3 +2,10 @@ pub mod Uses
 pub mod Derivations
 pub mod Faults
 pub mod Typings
+pub mod Roles
+pub mod Reading
+pub mod Naming
+pub mod Exactness
+pub mod Examples
+pub mod Dividing
+pub mod Verdicts

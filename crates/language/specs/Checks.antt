@@ -8,17 +8,18 @@ use lib.ListN.{length}
 use Rattle.std.specs.Of.Vec.{vec-items}
 use Rattle.std.specs.declared.result.Result.{Result}
 use Rattle.std.specs.declared.result.Result.the-variants.{Ok, Err}
-use Rattle.calculus.specs.Types.{Ty, N}
+use Rattle.calculus.specs.Types.{Ty, N, _⊗_}
 use Rattle.calculus.specs.Terms.{subterms}
 use Rattle.syntax.specs.Trees.{Tree, erase}
 use Rattle.syntax.specs.Program.{DenotesType, Denotes}
 use Rattle.syntax.specs.declared.program.TypeCell.{TypeCell}
 use Rattle.syntax.specs.declared.program.Subterm.{Subterm}
 use Rattle.syntax.specs.declared.refusal.Refusal.{Refusal}
+use Rattle.syntax.specs.declared.refusal.Fault.the-variants.{IllTyped}
 use Rattle.language.specs.declared.checker.Checker.{Checker}
 use Rattle.language.specs.declared.checker.Hypothesis.{Hypothesis}
-use Rattle.language.specs.declared.checker.Typing.{Typing}
-use Rattle.language.specs.Infer.{Checked, good, bad, infer, Env}
+use Rattle.language.specs.declared.typing.Typing.{Typing}
+use Rattle.language.specs.Infer.{Checked, good, bad, infer, splitRule, Env}
 use Rattle.language.specs.Measures.{typeRoom}
 use Rattle.language.specs.Judgements.{Judgement, judgements, typeOf}
 
@@ -59,6 +60,14 @@ Agrees cells (Ok c) (bad f p) = ⊥
 Agrees cells (Err x) (good A) = ⊥
 Agrees cells (Err x) (bad f p) = (x .fault ≡ f) × (x .place ≡ p)
 
+abbrev pub illTyped : ℕ → Refusal
+illTyped p = record { fault = IllTyped; place = p }
+
+-- the cells of a pair type's two parts, or no type of a pair
+abbrev pub Splits : List TypeCell → ℕ → Ty → Result (ℕ × ℕ) Refusal → Type 0
+Splits cells p A (Ok c) = (B : Ty) × (C : Ty) × (A ≡ B ⊗ C) × DenotesType cells (c .0) B × DenotesType cells (c .1) C
+Splits cells p A (Err x) = (k : Ty → Ty → Checked) → splitRule p k A ≡ bad (x .fault) (x .place)
+
 -- sub-term i is a tree under a known context, with room for what its check adds
 pub record Ready (subs : List Subterm) (i : ℕ) (m : Checker) : Type 0 where
   pub tree : Tree ℕ
@@ -70,13 +79,12 @@ pub record Ready (subs : List Subterm) (i : ℕ) (m : Checker) : Type 0 where
   pub typing-room : length (typingsOf m) + subterms (erase tree) ≤ 2048
   pub context-room : length (contextOf m) + 2 * subterms (erase tree) ≤ 4096
 
--- n sub-terms were checked: a typing for each and at most as many cells were added, and all else is as it was
+-- at most n cells and these typings were added, and all else is as it was
 pub record Grown (n : ℕ) (new : List Typing) (m m′ : Checker) : Type 0 where
   pub more : List TypeCell
   pub cells : cellsOf m′ ≡ cellsOf m ++ more
   pub few : length more ≤ n
   pub typings : typingsOf m′ ≡ typingsOf m ++ new
-  pub many : length new ≡ n
   pub context : contextOf m′ ≡ contextOf m
   pub number : m′ .number ≡ m .number
 

@@ -7,14 +7,12 @@ ghost use Rattle.std.specs.Of.Vec.{vec-items, vec-len};
 ghost use Rattle.calculus.specs.Types.{Ty};
 ghost use Rattle.syntax.specs.Program.{DenotesType};
 ghost use Rattle.syntax.specs.declared.program.Shape.the-variants.{Number};
-ghost use Rattle.language.specs.Infer.{within, succRule, appRule, splitRule, iterRule};
+ghost use Rattle.language.specs.Infer.{within, succRule, appRule, iterStep, iterRule};
 ghost use Rattle.language.specs.Measures.{IsType, typeRoom};
-ghost use Rattle.language.specs.Checks.{cellsOf, typingsOf, contextOf, cellOf, Agrees, Noted, Ready, Checks};
+ghost use Rattle.language.specs.Checks.{cellsOf, typingsOf, contextOf, cellOf, illTyped, Agrees, Splits, Noted, Ready, Checks};
 use crate::checker::Checker;
 use crate::checker::Hypothesis;
-use crate::checker::Typing;
-use crate::types::cell_at;
-use crate::types::same;
+use crate::typing::Typing;
 use syntax::program::Shape;
 use syntax::program::Subterm;
 use syntax::program::TypeCell;
@@ -25,12 +23,19 @@ use syntax::refusal::Refusal;
 const HIGHEST: usize = 64;
 
 fn ill_typed(place: usize) -> Refusal
-    ensures { λ r. ⌜ r ≡ record { fault = Rattle.syntax.specs.declared.refusal.Fault.the-variants.IllTyped; place = place } ⌝ }
+    ensures { λ r. ⌜ r ≡ illTyped place ⌝ }
 {
     Refusal {
         fault: Fault::IllTyped,
         place,
     }
+}
+
+pub fn subterm_at(subs: &[Subterm], i: usize) -> Subterm
+    requires { ⌜ i < length (now subs) ⌝ }
+    ensures { λ r. ⌜ getD (now (subs .entry)) i (record { place = 0; shape = Number 0 }) ≡ r ⌝ }
+{
+    subs[i]
 }
 
 // The cell of a variable's type, as its innermost hypothesis has it.
@@ -54,7 +59,7 @@ impl Checker {
         ensures agrees { λ r. ⌜ ((A : Ty) → DenotesType (cellsOf (now (self .entry))) cell A → Agrees (cellsOf (now (self .entry))) r (within place A)) ⌝ }
         ensures noted { λ r. ⌜ Noted subterm (now (self .entry)) (now (self .exit)) r ⌝ }
     {
-        if self.types.height(cell) > HIGHEST {
+        if self.types.measure(cell).height > HIGHEST {
             return Err(Refusal {
                 fault: Fault::HighType,
                 place,
@@ -101,7 +106,7 @@ impl Checker {
         ensures agrees { λ r. ⌜ ((A : Ty) → DenotesType (cellsOf (now (self .entry))) part A → Agrees (cellsOf (now (self .entry))) r (succRule place A)) ⌝ }
         ensures noted { λ r. ⌜ Noted subterm (now (self .entry)) (now (self .exit)) r ⌝ }
     {
-        match cell_at(&self.types.cells, part) {
+        match self.types.cell(part) {
             TypeCell::N => self.judge(subterm, place, part),
             TypeCell::Arrow(_, _) | TypeCell::Product(_, _) => Err(ill_typed(place)),
         }
@@ -115,15 +120,119 @@ impl Checker {
         ensures agrees { λ r. ⌜ ((F A : Ty) → DenotesType (cellsOf (now (self .entry))) function F → DenotesType (cellsOf (now (self .entry))) argument A → Agrees (cellsOf (now (self .entry))) r (appRule place F A)) ⌝ }
         ensures noted { λ r. ⌜ Noted subterm (now (self .entry)) (now (self .exit)) r ⌝ }
     {
-        match cell_at(&self.types.cells, function) {
+        match self.types.cell(function) {
             TypeCell::Arrow(domain, result) => {
-                if same(&self.types.cells, domain, argument) {
+                if self.types.same(domain, argument) {
                     self.judge(subterm, place, result)
                 } else {
                     Err(ill_typed(place))
                 }
             }
             TypeCell::N | TypeCell::Product(_, _) => Err(ill_typed(place)),
+        }
+    }
+
+    // The two parts of a pair type.
+    fn components(&self, place: usize, pair: usize) -> Result<(usize, usize), Refusal>
+        requires { ⌜ IsType (cellsOf (now self)) pair ⌝ }
+        ensures { λ r. ⌜ ((A : Ty) → DenotesType (cellsOf (now (self .entry))) pair A → Splits (cellsOf (now (self .entry))) place A r) ⌝ }
+    {
+        match self.types.cell(pair) {
+            TypeCell::Product(left, right) => Ok((left, right)),
+            TypeCell::N | TypeCell::Arrow(_, _) => Err(ill_typed(place)),
+        }
+    }
+
+    // A step from a type to itself, from a base of that type, as often as a number says.
+    fn iterator(&mut self, subterm: usize, place: usize, count: usize, step: usize, base: usize) -> Result<usize, Refusal>
+        requires count { ⌜ IsType (cellsOf (now self)) count ⌝ }
+        requires step { ⌜ IsType (cellsOf (now self)) step ⌝ }
+        requires base { ⌜ IsType (cellsOf (now self)) base ⌝ }
+        requires room { ⌜ length (typingsOf (now self)) < 2048 ⌝ }
+        ensures agrees { λ r. ⌜ ((A F C : Ty) → DenotesType (cellsOf (now (self .entry))) count A → DenotesType (cellsOf (now (self .entry))) step F → DenotesType (cellsOf (now (self .entry))) base C → Agrees (cellsOf (now (self .entry))) r (iterRule place A F C)) ⌝ }
+        ensures noted { λ r. ⌜ Noted subterm (now (self .entry)) (now (self .exit)) r ⌝ }
+    {
+        match self.types.cell(count) {
+            TypeCell::N => self.repeated(subterm, place, step, base),
+            TypeCell::Arrow(_, _) | TypeCell::Product(_, _) => Err(ill_typed(place)),
+        }
+    }
+
+    fn repeated(&mut self, subterm: usize, place: usize, step: usize, base: usize) -> Result<usize, Refusal>
+        requires step { ⌜ IsType (cellsOf (now self)) step ⌝ }
+        requires base { ⌜ IsType (cellsOf (now self)) base ⌝ }
+        requires room { ⌜ length (typingsOf (now self)) < 2048 ⌝ }
+        ensures agrees { λ r. ⌜ ((F C : Ty) → DenotesType (cellsOf (now (self .entry))) step F → DenotesType (cellsOf (now (self .entry))) base C → Agrees (cellsOf (now (self .entry))) r (iterStep place F C)) ⌝ }
+        ensures noted { λ r. ⌜ Noted subterm (now (self .entry)) (now (self .exit)) r ⌝ }
+    {
+        match self.types.cell(step) {
+            TypeCell::Arrow(domain, result) => {
+                if self.types.same(domain, result) && self.types.same(domain, base) {
+                    self.judge(subterm, place, base)
+                } else {
+                    Err(ill_typed(place))
+                }
+            }
+            TypeCell::N | TypeCell::Product(_, _) => Err(ill_typed(place)),
+        }
+    }
+
+    // The type of sub-term i, and of each of its parts on the way.
+    pub fn check(&mut self, subs: &[Subterm], i: usize) -> Result<usize, Refusal>
+        requires { ⌜ Ready (now subs) i (now self) ⌝ }
+        ensures { λ r. ⌜ Checks (now (subs .entry)) i (now (self .entry)) (now (self .exit)) r ⌝ }
+    {
+        let Subterm { place, shape } = subterm_at(subs, i);
+        match shape {
+            Shape::Variable(binder) => {
+                let cell = known(&self.context, self.number, binder);
+                self.judge(i, place, cell)
+            }
+            Shape::Number(_) => self.judge(i, place, self.number),
+            Shape::Successor(part) => {
+                let part = self.check(subs, part)?;
+                self.successor(i, place, part)
+            }
+            Shape::Function { binder, annotation, body } => {
+                let before = self.context.len();
+                self.bind(binder, annotation);
+                let result = self.check(subs, body)?;
+                self.release(before);
+                let cell = self.add(TypeCell::Arrow(annotation, result));
+                self.judge(i, place, cell)
+            }
+            Shape::Application(function, argument) => {
+                let function = self.check(subs, function)?;
+                let argument = self.check(subs, argument)?;
+                self.application(i, place, function, argument)
+            }
+            Shape::Pair(first, second) => {
+                let first = self.check(subs, first)?;
+                let second = self.check(subs, second)?;
+                let cell = self.add(TypeCell::Product(first, second));
+                self.judge(i, place, cell)
+            }
+            Shape::Let {
+                first,
+                second,
+                pair,
+                body,
+            } => {
+                let pair = self.check(subs, pair)?;
+                let (left, right) = self.components(place, pair)?;
+                let before = self.context.len();
+                self.bind(first, left);
+                self.bind(second, right);
+                let cell = self.check(subs, body)?;
+                self.release(before);
+                self.judge(i, place, cell)
+            }
+            Shape::Iterator { count, step, base } => {
+                let count = self.check(subs, count)?;
+                let step = self.check(subs, step)?;
+                let base = self.check(subs, base)?;
+                self.iterator(i, place, count, step, base)
+            }
         }
     }
 }

@@ -1,6 +1,13 @@
 // From text to checked program: what a text must be to be accepted, and what it is refused with else.
-pub mod check;
-pub mod checker;
-pub mod measure;
-pub mod table;
-pub mod types;
+mod check;
+mod checker;
+mod conclude;
+pub mod counts;
+mod facts;
+mod measure;
+pub mod program;
+pub mod refusals;
+mod table;
+mod types;
+pub mod typing;
+pub mod workspace;

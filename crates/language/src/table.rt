@@ -5,10 +5,13 @@ ghost use Prim.Native.Nat.{ℕ, _+_, _<_, _≤_};
 ghost use lib.ListN.{length, getD};
 ghost use Rattle.std.specs.Of.Vec.{vec-items, vec-len, vec-cap};
 ghost use Rattle.std.specs.Vec.{made};
-ghost use Rattle.language.specs.Measures.{typeRoom, number, HeightsOf, NaturalsOf};
+ghost use Rattle.syntax.specs.declared.program.TypeCell.the-variants.{N};
+ghost use Rattle.language.specs.Measures.{typeRoom, number, HeightsOf, NaturalsOf, IsType, SameTypes};
 use crate::measure::Measure;
+use crate::types::cell_at;
 use crate::types::measure_of;
 use crate::types::measured;
+use crate::types::same;
 use std::alloc::AllocError;
 use std::alloc::Global;
 use syntax::program::TypeCell;
@@ -56,9 +59,34 @@ impl TypeTable {
         place
     }
 
-    pub fn height(&self, i: usize) -> usize
-        ensures { λ r. ⌜ r ≡ getD (vec-items (now (self .entry) .measures)) i number .height ⌝ }
+    // Adds cells, in their order.
+    pub fn load(&mut self, cells: &[TypeCell])
+        requires { ⌜ length (vec-items (now self .cells)) + length (now cells) ≤ typeRoom ⌝ }
+        ensures { λ _. ⌜ vec-items (now (self .exit) .cells) ≡ vec-items (now (self .entry) .cells) ++ now (cells .entry) ⌝ }
     {
-        measure_of(&self.measures, i).height
+        for cell in cells {
+            let _ = self.add(*cell);
+        }
+    }
+
+    pub fn measure(&self, i: usize) -> Measure
+        ensures { λ r. ⌜ r ≡ getD (vec-items (now (self .entry) .measures)) i number ⌝ }
+    {
+        measure_of(&self.measures, i)
+    }
+
+    pub fn cell(&self, i: usize) -> TypeCell
+        requires { ⌜ IsType (vec-items (now self .cells)) i ⌝ }
+        ensures { λ r. ⌜ getD (vec-items (now (self .entry) .cells)) i N ≡ r ⌝ }
+    {
+        cell_at(&self.cells, i)
+    }
+
+    pub fn same(&self, i: usize, j: usize) -> bool
+        requires left { ⌜ IsType (vec-items (now self .cells)) i ⌝ }
+        requires right { ⌜ IsType (vec-items (now self .cells)) j ⌝ }
+        ensures { λ r. ⌜ SameTypes (vec-items (now (self .entry) .cells)) i j r ⌝ }
+    {
+        same(&self.cells, i, j)
     }
 }

@@ -1,1 +1,12 @@
 pub mod Examples
+pub mod Lexing
+pub mod Scanning
+pub mod TypeSteps
+pub mod NameSteps
+pub mod FirstSteps
+pub mod HeadSteps
+pub mod TermSteps
+pub mod ReadSteps
+pub mod LayoutSteps
+pub mod WholeSteps
+pub mod Agreement
