@@ -54,8 +54,7 @@ pub wire-wire-requires-in-Application : need.wire-wire-requires-in-Application
 wire-wire-requires-in-Application n c κs =
     let v = shaped (c .args .parts .now) (c .args .i) (c .pre .part .0) (c .part-at-shape .result) _ (c .part-at-shape .ensures) (c .in-Application .is) (c .pre .part .1 .ready .holds) in
     let w = subst (Wirable (c .args .parts .now) (c .args .i) (c .args .k) (c .args .root) (c .args .starts .now) (length (c .args .cells .now))) (v .2) (c .pre .part .1) in
-    let u = in-app₁ w _ _ _ _ (v .5) (omega arith) (c .l1-in-Application .ensures) (omega arith) in
-    let x = c .wire-next-in-Application .ensures .wired (v .0) u in
+    let x = c .wire-next-in-Application .ensures .wired (v .0) (in-app₁ w _ _ _ _ (v .5) (omega arith) (c .l1-in-Application .ensures) (omega arith)) in
     (omega (arith, v .4), ((v .1, in-app₂ w _ _ _ _ _ (v .6) (omega (arith, x .next)) (c .l3-in-Application .ensures) (omega arith) (wired-moved _ _ _ _ _ _ _ _ x)), omega (arith, c .pre .room, c .wire-next-in-Application .ensures .room)))
 
 pub wire-wire-next-requires-in-Pair : need.wire-wire-next-requires-in-Pair
@@ -68,8 +67,7 @@ pub wire-wire-requires-in-Pair : need.wire-wire-requires-in-Pair
 wire-wire-requires-in-Pair n c κs =
     let v = shaped (c .args .parts .now) (c .args .i) (c .pre .part .0) (c .part-at-shape .result) _ (c .part-at-shape .ensures) (c .in-Pair .is) (c .pre .part .1 .ready .holds) in
     let w = subst (Wirable (c .args .parts .now) (c .args .i) (c .args .k) (c .args .root) (c .args .starts .now) (length (c .args .cells .now))) (v .2) (c .pre .part .1) in
-    let u = in-pair₁ w _ _ _ _ (v .5) (omega arith) (c .l2-in-Pair .ensures) (omega arith) in
-    let x = c .wire-next-in-Pair .ensures .wired (v .0) u in
+    let x = c .wire-next-in-Pair .ensures .wired (v .0) (in-pair₁ w _ _ _ _ (v .5) (omega arith) (c .l2-in-Pair .ensures) (omega arith)) in
     (omega (arith, v .4), ((v .1, in-pair₂ w _ _ _ _ _ (v .6) (omega (arith, x .next)) (c .l3-in-Pair .ensures) (omega arith) (wired-moved _ _ _ _ _ _ _ _ x)), omega (arith, c .pre .room, c .wire-next-in-Pair .ensures .room)))
 
 pub wire-wire-next-requires-in-Let : need.wire-wire-next-requires-in-Let
