@@ -5,3 +5,5 @@ pub mod Standing
 pub mod Going
 pub mod Whole
 pub mod Answering
+pub mod Listing
+pub mod Counted

@@ -131,3 +131,8 @@ module _ {S Q R : Type 0} {next : S → Next S} {turned : S → S} {reads : S �
         (ap (λ (d : Grant). d .1) (there .0), there .1);
     arrives = λ x r d. let s = run-since x r in brings-reached x (s .stands) (s .probes .0) d;
   }
+
+-- a probe taken at the opening is reached again, after any one call forward or back
+pub home-again : {S : Type 0} {next : S → Next S} {turned : S → S} → Laws next turned → (x : S) (k : ℕ) (q z : Place S) (a d : Grant) → Asked Up next turned k (opening x) q a → Brought next turned (pos 0) q z d → (d .1 ≡ None) × (z ≡ opening x)
+home-again {S} laws x k q z a d r b =
+    run-law {Q = Unit {0}} {R = Unit {0}} {reads = λ (y : S) (s : ℤ) (q : Unit {0}) (t : Unit {0}). Unit {0}} laws (λ y s q t u r v. refl) .returns x z d begun (called begun (goes-forward {k = k} {a = a} r)) b

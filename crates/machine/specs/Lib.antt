@@ -6,3 +6,4 @@ pub mod Lawful
 pub mod Walks
 pub mod Readings
 pub mod Runs
+pub mod Worked

@@ -1,5 +1,6 @@
 -- What is read of a machine and a walk's sum.
 use mathlib.Core.Path.{_≡_}
+use mathlib.Core.List.{List, [], _∷_}
 use Prim.Native.Nat.{ℕ}
 use lib.IntN.{ℤ}
 use Rattle.std.specs.declared.option.Option.{Option}
@@ -35,3 +36,10 @@ Ready fits call.BringBack x = x ≡ None
 Ready fits call.Keep x = x ≡ None
 Ready fits (call.Read q) None = ⊥
 Ready fits (call.Read q) (Some x) = fits q x
+
+-- and so for each call of a list
+abbrev pub All-ready : {Q X : Type 0} → (Q → X → Type 0) → List (Call Q) → List (Option X) → Type 0
+All-ready fits [] [] = Unit {0}
+All-ready fits [] (x ∷ xs) = ⊥
+All-ready fits (c ∷ cs) [] = ⊥
+All-ready fits (c ∷ cs) (x ∷ xs) = Ready fits c x × All-ready fits cs xs

@@ -3,6 +3,7 @@ use mathlib.Core.Path.{_≡_}
 use mathlib.Core.List.{List, [], _∷_, _++_, map, reverse}
 use Prim.Native.Nat.{ℕ, _+_}
 use lib.IntN.{ℤ, pos, negℤ, _-ℤ_}
+use lib.ListN.{length}
 use Rattle.std.specs.declared.option.Option.{Option}
 use Rattle.std.specs.declared.option.Option.the-variants.{None, Some}
 use Rattle.machine.specs.declared.calls.Call.{Call}
@@ -69,6 +70,19 @@ pub record Ran {S Q R : Type 0} (next : S → Next S) (turned : S → S) (reads 
   pub forward : ℕ
   pub back : ℕ
   pub run : Run next turned reads o h p ps forward back
+
+-- each call with its answer
+abbrev pub paired : {X Y : Type 0} → List X → List Y → List (X × Y)
+paired [] ds = []
+paired (c ∷ cs) [] = []
+paired (c ∷ cs) (d ∷ ds) = (c, d) ∷ paired cs ds
+
+-- a list of calls performed at p, with these answers, led to q
+pub record Performed {S Q R : Type 0} (next : S → Next S) (turned : S → S) (reads : S → ℤ → Q → R → Type 0) (p : Place S) (cs : List (Call Q)) (ds : List (Answer R)) (q : Place S) : Type 0 where
+  -- one answer to each call
+  pub each : length ds ≡ length cs
+  -- whatever run led to p, it goes on by exactly these calls with these answers
+  pub goes-on : (o : Place S) (h : List (Call Q × Answer R)) → Ran next turned reads o h p [] → Ran next turned reads o (h ++ paired cs ds) q []
 
 -- the run law of one machine, since the opening at x
 pub record RunLaw {S Q R : Type 0} (next : S → Next S) (turned : S → S) (reads : S → ℤ → Q → R → Type 0) : Type 0 where

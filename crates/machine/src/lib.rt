@@ -8,6 +8,7 @@ mod readings;
 mod reasons;
 mod strides;
 mod walks;
+mod worked;
 
 pub use addition::Addition;
 pub use addition::AdditionMachine;
@@ -28,3 +29,4 @@ pub use strides::Stride;
 pub use strides::StrideMachine;
 pub use walks::Probe;
 pub use walks::Walk;
+pub use worked::out_and_back;

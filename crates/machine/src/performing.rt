@@ -1,10 +1,13 @@
 ghost use mathlib.Core.Path.{_≡_};
 ghost use Prim.Native.Nat.{_+_, _<_, _≤_};
+ghost use lib.ListN.{length};
+ghost use mathlib.Core.List.{map};
+ghost use Rattle.std.specs.Results.{Cases};
 ghost use Rattle.std.specs.Vec.{made};
 ghost use Rattle.std.specs.Of.Vec.{vec-items, vec-len, vec-cap};
 ghost use Rattle.machine.specs.Walks.{place};
-ghost use Rattle.machine.specs.Readings.{Reads, meant, Ready};
-ghost use Rattle.machine.specs.Runs.{Did, latest-first};
+ghost use Rattle.machine.specs.Readings.{Reads, meant, Ready, All-ready};
+ghost use Rattle.machine.specs.Runs.{Did, Performed, RunLaw, latest-first};
 ghost use Rattle.machine.specs.declared.walks.Probe.{Probe as Taken};
 use crate::calls::Answer;
 use crate::calls::Call;
@@ -15,6 +18,32 @@ use std::alloc::AllocError;
 use std::alloc::Global;
 
 impl<M: Readable> Walk<M> {
+    // Performs the calls one after another and hands back each answer. Bring-back and keep end the latest open
+    // probe, and what is open at the end is kept. All room is made before anything moves.
+    pub fn perform(&mut self, calls: &[Call<M::Query>], heap: Global) -> Result<Vec<Answer<M::Reply>>, AllocError>
+        ensures performed { λ r. ⌜ Cases r (λ v. Performed (M·Machine .next) (M·Machine .turned) (Reads (M·Machine .state) reading) (place (M·Machine .state (now (self .entry) .machine)) (now (self .entry) .sum)) (now (calls .entry)) (map (meant told) (vec-items v)) (place (M·Machine .state (now (self .exit) .machine)) (now (self .exit) .sum))) (λ _. now (self .exit) ≡ now (self .entry)) ⌝ }
+        ensures law { λ _. ⌜ RunLaw (M·Machine .next) (M·Machine .turned) (Reads (M·Machine .state) reading) ⌝ }
+    {
+        let rooms = rooms_for::<M>(calls, heap)?;
+        let mut answers = Vec::with_capacity(heap, calls.len())?;
+        let mut probes = Vec::with_capacity(heap, calls.len())?;
+        let mut rooms = rooms.into_iter();
+        for call in calls {
+            let answer = self.answer(call, &mut probes, rooms.next().unwrap());
+            answers.push_reserved(answer);
+        }
+        self.keep_all(probes);
+        Ok(answers)
+    }
+
+    // Keeps the probes that are open at the end.
+    fn keep_all(&self, mut probes: Vec<Probe>) {
+        while let Some(probe) = probes.pop() {
+            self.keep(probe);
+        }
+        probes.destroy_empty();
+    }
+
     // Performs one call, with the open probes on a stack and the room for a reading.
     fn answer(&mut self, call: &Call<M::Query>, probes: &mut Vec<Probe>, room: Option<M::Room>) -> Answer<M::Reply>
         requires ready { ⌜ Ready fits (now call) room ⌝ }
@@ -46,5 +75,25 @@ impl<M: Readable> Walk<M> {
                 None => unreachable(),
             },
         }
+    }
+}
+
+// Makes the room for every reading among the calls.
+fn rooms_for<M: Readable>(calls: &[Call<M::Query>], heap: Global) -> Result<Vec<Option<M::Room>>, AllocError>
+    ensures { λ r. ⌜ made r (λ v. (vec-len v ≡ length (now (calls .entry))) × All-ready fits (now (calls .entry)) (vec-items v)) ⌝ }
+{
+    let mut rooms = Vec::new(heap);
+    for call in calls {
+        rooms.push(room_for::<M>(call, heap)?)?;
+    }
+    Ok(rooms)
+}
+
+fn room_for<M: Readable>(call: &Call<M::Query>, heap: Global) -> Result<Option<M::Room>, AllocError>
+    ensures { λ r. ⌜ made r (Ready fits (now (call .entry))) ⌝ }
+{
+    match call {
+        Call::Read(query) => Ok(Some(M::room(query, heap)?)),
+        _ => Ok(None),
     }
 }

@@ -29,6 +29,14 @@ impl<M> Stride<M> {
     {
         &self.below
     }
+
+    // Gives the machine below back.
+    pub fn into_below(self) -> M
+        ensures { λ r. ⌜ r ≡ self .below ⌝ }
+    {
+        let Stride { below, k: _ } = self;
+        below
+    }
 }
 
 const SHORTEST: u32 = 1;

@@ -1,0 +1,108 @@
+// A machine of a lecturer's own: a ladder of a thousand rungs.
+ghost use mathlib.Core.Bool.{true};
+ghost use mathlib.Core.Path.{_≡_};
+ghost use Prim.Native.Nat.{ℕ, _≤_};
+ghost use Rattle.std.specs.Vec.{made};
+ghost use Rattle.ladder.specs.Rungs.{Rung, rung, climb, other-way, Tried};
+ghost use Rattle.ladder.specs.Lawful.{ladder-laws};
+use machine::Grant;
+use machine::Machine;
+use machine::Readable;
+use machine::Reason;
+use machine::Stride;
+use machine::StrideMachine;
+use machine::Walk;
+use std::alloc::AllocError;
+use std::alloc::Global;
+
+const TOP: u32 = 1_000;
+
+// How often it creaked is no part of where a ladder stands: no step looks at it.
+#[derive(Clone, Copy)]
+pub struct Ladder {
+    height: u32,
+    upward: bool,
+    creaks: u32,
+    ghost short: { height ≤ 1000 },
+}
+
+impl Ladder {
+    // Stands on the ground and faces up.
+    pub fn new() -> Ladder
+        ensures { λ r. ⌜ rung (r .height) (r .upward) ≡ rung 0 true ⌝ }
+    {
+        Ladder {
+            height: 0,
+            upward: true,
+            creaks: 0,
+        }
+    }
+}
+
+pub impl Machine for Ladder as LadderMachine {
+    ghost State = { Rung };
+
+    ghost state = { λ m. rung (m .height) (m .upward) };
+
+    ghost next = { climb };
+
+    ghost turned = { other-way };
+
+    ghost lawful = { ladder-laws };
+
+    fn step(&mut self) -> Result<(), Reason> {
+        self.creaks = self.creaks.wrapping_add(1);
+        if self.upward {
+            if self.height >= TOP {
+                return Err(Reason::NoRow);
+            }
+            self.height += 1;
+        } else {
+            if self.height == 0 {
+                return Err(Reason::Home);
+            }
+            self.height -= 1;
+        }
+        Ok(())
+    }
+
+    fn turn(&mut self) {
+        self.upward = !self.upward;
+    }
+}
+
+// The one reading is the height.
+pub impl Readable for Ladder as LadderReadable {
+    type Query = ();
+    type Room = ();
+    type Reply = u32;
+
+    ghost Told = { ℕ };
+
+    ghost told = { λ n. n };
+
+    ghost reading = { λ m s q. m .height };
+
+    ghost fits = { λ q x. Unit {0} };
+
+    fn room(query: &(), heap: Global) -> Result<(), AllocError>
+        ensures { λ r. ⌜ made r (λ x. Unit {0}) ⌝ }
+    {
+        Ok(())
+    }
+
+    fn reply(&self, sum: i64, query: &(), room: ()) -> u32 {
+        self.height
+    }
+}
+
+// Goes as many strides of k as are granted of those wanted, and comes back to where the ladder stood.
+pub fn up_and_back(ladder: Ladder, k: u32, wanted: u32) -> (Grant, Ladder)
+    ensures { λ r. ⌜ Tried k wanted (rung (ladder .height) (ladder .upward)) (r .0) (rung (r .1 .height) (r .1 .upward)) ⌝ }
+{
+    let mut walk = Walk::new(Stride::new(ladder, k));
+    let start = walk.probe();
+    let grant = walk.forward(wanted);
+    let _ = walk.bring_back(start);
+    (grant, walk.into_machine().into_below())
+}
