@@ -1,0 +1,9 @@
+mod Contexts
+mod Unique
+mod Rules
+mod Inferred
+mod Machine
+mod Runs
+mod Simulation
+mod Limits
+mod Whole

@@ -1,0 +1,6 @@
+pub mod Uses
+pub mod Derivations
+pub mod Faults
+pub mod Typings
+pub mod Roles
+pub mod Reading

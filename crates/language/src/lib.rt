@@ -1,0 +1,1 @@
+// From text to checked program: what a text must be to be accepted, and what it is refused with else.
