@@ -1,1 +1,4 @@
 pub mod Infer
+pub mod Measures
+pub mod Judgements
+pub mod Checks
