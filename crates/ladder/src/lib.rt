@@ -74,7 +74,9 @@ pub impl Machine for Ladder as LadderMachine {
 // The one reading is the height.
 pub impl Readable for Ladder as LadderReadable {
     type Query = ();
+
     type Room = ();
+
     type Reply = u32;
 
     ghost Told = { ℕ };
@@ -105,4 +107,51 @@ pub fn up_and_back(ladder: Ladder, k: u32, wanted: u32) -> (Grant, Ladder)
     let grant = walk.forward(wanted);
     let _ = walk.bring_back(start);
     (grant, walk.into_machine().into_below())
+}
+
+#[cfg(test)]
+mod tests {
+    use super::*;
+    use machine::Answer;
+    use machine::Call;
+    use machine::ReasonDebug;
+    use machine::ReasonPartialEq;
+    use std::test::*;
+
+    #[test]
+    fn climbs_to_the_top() -> Result<(), Fail> {
+        let mut walk = Walk::new(Ladder::new());
+        check_eq(walk.forward(1_000_001), (0, Some(Reason::TooManySteps)))?;
+        check_eq(walk.forward(2_000), (1_000, Some(Reason::NoRow)))?;
+        check_eq(walk.back(2_000), (1_000, Some(Reason::Home)))?;
+        check_eq(walk.sum(), 0)
+    }
+
+    #[test]
+    fn strides_and_comes_back() -> Result<(), Fail> {
+        let (grant, ladder) = up_and_back(Ladder::new(), 300, 9);
+        check_eq(grant, (3, Some(Reason::NoRow)))?;
+        check_eq(ladder.height, 0)
+    }
+
+    #[test]
+    fn performs_a_list(rt: LibcRuntime) -> Result<(), Fail> {
+        let mut walk = Walk::new(Ladder::new());
+        let calls = [
+            Call::Forward(7),
+            Call::Probe,
+            Call::Forward(2),
+            Call::BringBack,
+            Call::Read(()),
+            Call::Keep,
+        ];
+        let answers = walk.perform(&calls, rt.alloc())?;
+        let mut heights = 0;
+        for answer in answers.iter() {
+            if let Answer::Read(height) = answer {
+                heights = *height;
+            }
+        }
+        check_eq(heights, 7)
+    }
 }

@@ -32,5 +32,5 @@ answered p q z a d s ep r t es =
     let back = asked-once addition-laws Down 10 (place (standing 0 5 Out) (pos 3)) z (place (standing 5 0 Out) (negsuc 1)) d (5, Some Home) (rw (out .1) at t) ten-back in
     by a d s (out .0) (back .0) (es ∙ ap (λ (w : Place Standing). w .sum) (back .1))
   where
-  by : (a d : Grant) (s : ℤ) → a ≡ (3, Some Home) → d ≡ (5, Some Home) → s ≡ negsuc 1 → _≡_ {A = Grant × Grant × ℤ} (a, d, s) ((3, Some Home), (5, Some Home), negsuc 1)
-  by a d s ea ed es = rw (ea, ed, es) refl
+    by : (a d : Grant) (s : ℤ) → a ≡ (3, Some Home) → d ≡ (5, Some Home) → s ≡ negsuc 1 → _≡_ {A = Grant × Grant × ℤ} (a, d, s) ((3, Some Home), (5, Some Home), negsuc 1)
+    by a d s ea ed es = rw (ea, ed, es) refl

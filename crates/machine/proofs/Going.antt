@@ -39,8 +39,8 @@ module _ {P : Type 0} (next : P → Next P) (k : ℕ) (p : P) where
   pub granted-once : {q z : P} (a d : Grant) → Granted next k p q a → Granted next k p z d → (a ≡ d) × (q ≡ z)
   granted-once {q} {z} a d s t =
       let count : a .0 ≡ d .0 = same-or-less (a .0) (d .0)
-            (λ lt. why-late (a .0) (d .0) q z (a .1) (d .1) lt (s .came) (t .came) (s .why) (t .why))
-            (λ lt. why-late (d .0) (a .0) z q (d .1) (a .1) lt (t .came) (s .came) (t .why) (s .why)) in
+      (λ lt. why-late (a .0) (d .0) q z (a .1) (d .1) lt (s .came) (t .came) (s .why) (t .why))
+      (λ lt. why-late (d .0) (a .0) z q (d .1) (a .1) lt (t .came) (s .came) (t .why) (s .why)) in
       let u = s .came in
       let v : go next (a .0) p ≡ to z = ap (λ n. go next n p) count ∙ t .came in
       let end : q ≡ z = cc in
@@ -48,8 +48,8 @@ module _ {P : Type 0} (next : P → Next P) (k : ℕ) (p : P) where
       let reason : a .1 ≡ d .1 = why-once (a .0) q (a .1) (d .1) (s .why) whys in
       (same (a .0) (d .0) (a .1) (d .1) count reason, end)
     where
-    same : (m n : ℕ) (v w : Option Reason) → m ≡ n → v ≡ w → _≡_ {A = Grant} (m, v) (n, w)
-    same m n v w e f = rw (e, f) refl
+      same : (m n : ℕ) (v w : Option Reason) → m ≡ n → v ≡ w → _≡_ {A = Grant} (m, v) (n, w)
+      same m n v w e f = rw (e, f) refl
 
 -- how far a walk goes
 
@@ -82,12 +82,12 @@ module _ {S : Type 0} (h : Heading) (next : S → Next S) where
   may-inv : (p q : Place S) → may h next p ≡ to q → (room h (p .sum) ≡ true) × (next (p .state) ≡ to (q .state)) × (q .sum ≡ moved h (p .sum))
   may-inv p q e = by (room h (p .sum)) refl (next (p .state)) refl e
     where
-    by : (b : Bool) → room h (p .sum) ≡ b → (o : Next S) → next (p .state) ≡ o → cond b (then o (λ y. to (place y (moved h (p .sum))))) (ends WalkLimit) ≡ to q → (room h (p .sum) ≡ true) × (next (p .state) ≡ to (q .state)) × (q .sum ≡ moved h (p .sum))
-    by true eb (to y) eo e =
-        let same : place y (moved h (p .sum)) ≡ q = cc in
-        (eb, eo ∙ ap (λ z. to (z .state)) same, ap (λ z. z .sum) (sym same))
-    by true eb (ends w) eo e = absurd (let z : _≡_ {A = ℕ} 0 1 = cc in omega arith)
-    by false eb o eo e = absurd (let z : _≡_ {A = ℕ} 0 1 = cc in omega arith)
+      by : (b : Bool) → room h (p .sum) ≡ b → (o : Next S) → next (p .state) ≡ o → cond b (then o (λ y. to (place y (moved h (p .sum))))) (ends WalkLimit) ≡ to q → (room h (p .sum) ≡ true) × (next (p .state) ≡ to (q .state)) × (q .sum ≡ moved h (p .sum))
+      by true eb (to y) eo e =
+          let same : place y (moved h (p .sum)) ≡ q = cc in
+          (eb, eo ∙ ap (λ z. to (z .state)) same, ap (λ z. z .sum) (sym same))
+      by true eb (ends w) eo e = absurd (let z : _≡_ {A = ℕ} 0 1 = cc in omega arith)
+      by false eb o eo e = absurd (let z : _≡_ {A = ℕ} 0 1 = cc in omega arith)
 
   -- the machine went as far as the sum did
   pub may-came : (g : ℕ) (p q : Place S) → go (may h next) g p ≡ to q → (go next g (p .state) ≡ to (q .state)) × (q .sum ≡ after h (p .sum) g)
@@ -101,8 +101,8 @@ module _ {S : Type 0} (h : Heading) (next : S → Next S) where
       let last = may-inv (s .0) q (s .2) in
       (more (go-more next g (p .state) (s .0 .state) (q .state) (before .0) (last .1)), last .2 ∙ ap (moved h) (before .1) ∙ after-more h (p .sum) g)
     where
-    more : go next (g + 1) (p .state) ≡ to (q .state) → go next (suc g) (p .state) ≡ to (q .state)
-    more e = let is : suc g ≡ g + 1 = omega arith in ap (λ n. go next n (p .state)) is ∙ e
+      more : go next (g + 1) (p .state) ≡ to (q .state) → go next (suc g) (p .state) ≡ to (q .state)
+      more e = let is : suc g ≡ g + 1 = omega arith in ap (λ n. go next n (p .state)) is ∙ e
 
   -- and within the limit
   pub may-fits : (g : ℕ) (p q : Place S) → Fits h (p .sum) → go (may h next) g p ≡ to q → Fits h (q .sum)
@@ -150,8 +150,8 @@ stays next p q e = record {
 about-once : {S : Type 0} (turned : S → S) (q z : Place S) → ((x y : S) → turned x ≡ turned y → x ≡ y) → about turned q ≡ about turned z → q ≡ z
 about-once {S} turned q z once e = same (q .state) (z .state) (q .sum) (z .sum) (once (q .state) (z .state) (ap (λ w. w .state) e)) (ap (λ w. w .sum) e)
   where
-  same : (x y : S) (s t : ℤ) → x ≡ y → s ≡ t → place x s ≡ place y t
-  same x y s t ex es = rw (ex, es) refl
+    same : (x y : S) (s t : ℤ) → x ≡ y → s ≡ t → place x s ≡ place y t
+    same x y s t ex es = rw (ex, es) refl
 
 module _ {S : Type 0} {next : S → Next S} {turned : S → S} (laws : Laws next turned) where
   pub goes-moves : (h : Heading) (k : ℕ) (p q : Place S) (a : Grant) → Goes h next turned k p q a → Moves next p q (forth h (a .0)) (back h (a .0))
@@ -181,9 +181,9 @@ module _ {S : Type 0} {next : S → Next S} {turned : S → S} (laws : Laws next
   asked-moves h k p q a (few le r) = goes-moves h k p q a r
   asked-moves h k p q a (many lt e same) = at h (a .0) (ap (λ (d : Grant). d .0) e)
     where
-    at : (h : Heading) (g : ℕ) → g ≡ 0 → Moves next p q (forth h g) (back h g)
-    at Up g e = rw e (stays next p q same)
-    at Down g e = rw e (stays next p q same)
+      at : (h : Heading) (g : ℕ) → g ≡ 0 → Moves next p q (forth h g) (back h g)
+      at Up g e = rw e (stays next p q same)
+      at Down g e = rw e (stays next p q same)
 
   pub asked-once : (h : Heading) (k : ℕ) (p q z : Place S) (a d : Grant) → Asked h next turned k p q a → Asked h next turned k p z d → (a ≡ d) × (q ≡ z)
   asked-once h k p q z a d (few le r) (few le′ t) = goes-once h k p q z a d r t
@@ -205,6 +205,6 @@ module _ {S : Type 0} {next : S → Next S} {turned : S → S} (laws : Laws next
   pub brought-there : (p : Place S) (y : S) (t : ℤ) → Within t → Stands next (p .state) (t -ℤ p .sum) y → Brought next turned t p (place y t) (natAbs (t -ℤ p .sum), None)
   brought-there p y t w s = by (leZ (p .sum) t) refl
     where
-    by : (b : Bool) → leZ (p .sum) t ≡ b → Goes (cond b Up Down) next turned (natAbs (t -ℤ p .sum)) p (place y t) (natAbs (t -ℤ p .sum), None)
-    by true e = goes-all Up (natAbs (t -ℤ p .sum)) p y t (let le : p .sum ≤ℤ t = grind (arith, ints) in omega (arith, ints)) w s
-    by false e = goes-all Down (natAbs (t -ℤ p .sum)) p y t (let lt : t <ℤ p .sum = grind (arith, ints) in omega (arith, ints)) w s
+      by : (b : Bool) → leZ (p .sum) t ≡ b → Goes (cond b Up Down) next turned (natAbs (t -ℤ p .sum)) p (place y t) (natAbs (t -ℤ p .sum), None)
+      by true e = goes-all Up (natAbs (t -ℤ p .sum)) p y t (let le : p .sum ≤ℤ t = grind (arith, ints) in omega (arith, ints)) w s
+      by false e = goes-all Down (natAbs (t -ℤ p .sum)) p y t (let lt : t <ℤ p .sum = grind (arith, ints) in omega (arith, ints)) w s

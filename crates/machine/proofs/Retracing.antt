@@ -17,11 +17,11 @@ module _ {S : Type 0} {next : S → Next S} {turned : S → S} (laws : Laws next
       let q : next s ≡ to (turned (p .0)) = ap next (sym (laws .twice s)) ∙ laws .back (p .0) (turned s) (p .2) in
       by (p .0) (p .1) q r e
     where
-    by : (y : S) → go next (n - (i + 1)) x ≡ to y → next s ≡ to (turned y) → (r : Result U Reason) → Took next s t r → go next (n - (i + 1)) x ≡ to (turned t)
-    by y p q (Ok u) e =
-        let same : t ≡ turned y = cc in
-        p ∙ ap to (sym (ap turned same ∙ laws .twice y))
-    by y p q (Err w) e = absurd (let z : _≡_ {A = ℕ} 0 1 = cc (q, e .0) in omega arith)
+      by : (y : S) → go next (n - (i + 1)) x ≡ to y → next s ≡ to (turned y) → (r : Result U Reason) → Took next s t r → go next (n - (i + 1)) x ≡ to (turned t)
+      by y p q (Ok u) e =
+          let same : t ≡ turned y = cc in
+          p ∙ ap to (sym (ap turned same ∙ laws .twice y))
+      by y p q (Err w) e = absurd (let z : _≡_ {A = ℕ} 0 1 = cc (q, e .0) in omega arith)
 
   -- the whole way back ends where it began
   pub retraced : (n i : ℕ) (x e s t u : S) → n ≤ i → s ≡ turned e → (go next n x ≡ to (turned s) → go next (n - i) x ≡ to (turned t)) → u ≡ turned t → go next n x ≡ to e → u ≡ x

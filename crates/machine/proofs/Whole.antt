@@ -97,8 +97,8 @@ module _ {S Q R : Type 0} {next : S → Next S} {turned : S → S} {reads : S �
   same-place : (p q : Place S) → p .sum ≡ q .sum → p .state ≡ q .state → p ≡ q
   same-place p q es ex = by (p .state) (q .state) (p .sum) (q .sum) ex es
     where
-    by : (x y : S) (s t : ℤ) → x ≡ y → s ≡ t → place x s ≡ place y t
-    by x y s t ex es = rw (ex, es) refl
+      by : (x y : S) (s t : ℤ) → x ≡ y → s ≡ t → place x s ≡ place y t
+      by x y s t ex es = rw (ex, es) refl
 
   at-place : {p q q′ : Place S} {qs qs′ : List ℤ} {c : Call Q} {d : Answer R} {g l : ℕ} → p ≡ q → Does next turned reads q qs c d q′ qs′ g l → Does next turned reads p qs c d q′ qs′ g l
   at-place e d = rw e d

@@ -39,9 +39,9 @@ module _ {S : Type 0} (next : S → Next S) where
   unfolding go
   go-split n x z h = split (go next n x) refl h
     where
-    split : (o : Next S) → go next n x ≡ o → then o next ≡ to z → (y : S) × (go next n x ≡ to y) × (next y ≡ to z)
-    split (to y) e h = (y, e, h)
-    split (ends w) e h = absurd (let z : _≡_ {A = ℕ} 0 1 = cc in omega arith)
+      split : (o : Next S) → go next n x ≡ o → then o next ≡ to z → (y : S) × (go next n x ≡ to y) × (next y ≡ to z)
+      split (to y) e h = (y, e, h)
+      split (ends w) e h = absurd (let z : _≡_ {A = ℕ} 0 1 = cc in omega arith)
 
 -- what n next states lead to leads back, turned, by n next states
 pub go-back : {S : Type 0} {next : S → Next S} {turned : S → S} → Laws next turned → (n : ℕ) (x y : S) → go next n x ≡ to y → go next n (turned y) ≡ to (turned x)
@@ -80,24 +80,24 @@ on-pair Homeward p = refl
 passed-back : (m n k l : ℕ) → passing (m, n) ≡ to (k, l) → passing (l, k) ≡ to (n, m)
 passed-back m n k l h = by (eqb m 0) refl (leb 4294967295 n) refl (leb m 4294967295) refl h
   where
-  by : (x : Bool) → eqb m 0 ≡ x → (y : Bool) → leb 4294967295 n ≡ y → (z : Bool) → leb m 4294967295 ≡ z
-      → cond {A = Next (ℕ × ℕ)} x (ends Home) (cond y (ends Overflow) (cond z (to (m - 1, n + 1)) (ends Overflow))) ≡ to (k, l) → passing (l, k) ≡ to (n, m)
-  by true ex y ey z ez h = absurd (let z : _≡_ {A = ℕ} 0 1 = cc in omega arith)
-  by false ex true ey z ez h = absurd (let z : _≡_ {A = ℕ} 0 1 = cc in omega arith)
-  by false ex false ey false ez h = absurd (let z : _≡_ {A = ℕ} 0 1 = cc in omega arith)
-  by false ex false ey true ez h =
-      let e : _≡_ {A = ℕ × ℕ} (k, l) (m - 1, n + 1) = cc in
-      let ek : k ≡ m - 1 = ap (λ (p : ℕ × ℕ). p .0) e in
-      let el : l ≡ n + 1 = ap (λ (p : ℕ × ℕ). p .1) e in
-      let some : m ≡ 0 → ⊥ = eqb-false m 0 ex in
-      let room = leb-false 4294967295 n ey in
-      let few = leb-true m 4294967295 ez in
-      let a : eqb l 0 ≡ false = ne-eqb l 0 (omega arith) in
-      let b : leb 4294967295 k ≡ false = lt-leb 4294967295 k (omega arith) in
-      let c : leb l 4294967295 ≡ true = le-leb l 4294967295 (omega arith) in
-      let p : l - 1 ≡ n = omega arith in
-      let q : k + 1 ≡ m = omega arith in
-      rw (a, b, c, p, q) refl
+    by : (x : Bool) → eqb m 0 ≡ x → (y : Bool) → leb 4294967295 n ≡ y → (z : Bool) → leb m 4294967295 ≡ z
+        → cond {A = Next (ℕ × ℕ)} x (ends Home) (cond y (ends Overflow) (cond z (to (m - 1, n + 1)) (ends Overflow))) ≡ to (k, l) → passing (l, k) ≡ to (n, m)
+    by true ex y ey z ez h = absurd (let z : _≡_ {A = ℕ} 0 1 = cc in omega arith)
+    by false ex true ey z ez h = absurd (let z : _≡_ {A = ℕ} 0 1 = cc in omega arith)
+    by false ex false ey false ez h = absurd (let z : _≡_ {A = ℕ} 0 1 = cc in omega arith)
+    by false ex false ey true ez h =
+        let e : _≡_ {A = ℕ × ℕ} (k, l) (m - 1, n + 1) = cc in
+        let ek : k ≡ m - 1 = ap (λ (p : ℕ × ℕ). p .0) e in
+        let el : l ≡ n + 1 = ap (λ (p : ℕ × ℕ). p .1) e in
+        let some : m ≡ 0 → ⊥ = eqb-false m 0 ex in
+        let room = leb-false 4294967295 n ey in
+        let few = leb-true m 4294967295 ez in
+        let a : eqb l 0 ≡ false = ne-eqb l 0 (omega arith) in
+        let b : leb 4294967295 k ≡ false = lt-leb 4294967295 k (omega arith) in
+        let c : leb l 4294967295 ≡ true = le-leb l 4294967295 (omega arith) in
+        let p : l - 1 ≡ n = omega arith in
+        let q : k + 1 ≡ m = omega arith in
+        rw (a, b, c, p, q) refl
 
 opposite-twice : (d : Direction) → opposite (opposite d) ≡ d
 opposite-twice Out = refl

@@ -53,7 +53,9 @@ pub impl Machine for Addition as AdditionMachine {
 // The one reading is the two numbers.
 pub impl Readable for Addition as AdditionReadable {
     type Query = ();
+
     type Room = ();
+
     type Reply = (u32, u32);
 
     ghost Told = { ℕ × ℕ };

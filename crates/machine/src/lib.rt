@@ -7,6 +7,7 @@ mod performing;
 mod readings;
 mod reasons;
 mod strides;
+mod sums;
 mod walks;
 mod worked;
 

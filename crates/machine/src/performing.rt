@@ -20,8 +20,12 @@ use std::alloc::Global;
 impl<M: Readable> Walk<M> {
     // Performs the calls one after another and hands back each answer. Bring-back and keep end the latest open
     // probe, and what is open at the end is kept. All room is made before anything moves.
-    pub fn perform(&mut self, calls: &[Call<M::Query>], heap: Global) -> Result<Vec<Answer<M::Reply>>, AllocError>
-        ensures performed { λ r. ⌜ Cases r (λ v. Performed (M·Machine .next) (M·Machine .turned) (Reads (M·Machine .state) reading) (place (M·Machine .state (now (self .entry) .machine)) (now (self .entry) .sum)) (now (calls .entry)) (map (meant told) (vec-items v)) (place (M·Machine .state (now (self .exit) .machine)) (now (self .exit) .sum))) (λ _. now (self .exit) ≡ now (self .entry)) ⌝ }
+    pub fn perform(
+        &mut self,
+        calls: &[Call<M::Query>],
+        heap: Global,
+    ) -> Result<Vec<Answer<M::Reply>>, AllocError>
+        ensures performed { λ r. ⌜ Cases r (λ v. Performed (M·Machine .next) (M·Machine .turned) (Reads (M·Machine .state) reading) (place (M·Machine .state (now (self .entry) .machine)) (now (self .entry) .sum .value)) (now (calls .entry)) (map (meant told) (vec-items v)) (place (M·Machine .state (now (self .exit) .machine)) (now (self .exit) .sum .value))) (λ _. now (self .exit) ≡ now (self .entry)) ⌝ }
         ensures law { λ _. ⌜ RunLaw (M·Machine .next) (M·Machine .turned) (Reads (M·Machine .state) reading) ⌝ }
     {
         let rooms = rooms_for::<M>(calls, heap)?;
@@ -45,10 +49,15 @@ impl<M: Readable> Walk<M> {
     }
 
     // Performs one call, with the open probes on a stack and the room for a reading.
-    fn answer(&mut self, call: &Call<M::Query>, probes: &mut Vec<Probe>, room: Option<M::Room>) -> Answer<M::Reply>
+    fn answer(
+        &mut self,
+        call: &Call<M::Query>,
+        probes: &mut Vec<Probe>,
+        room: Option<M::Room>,
+    ) -> Answer<M::Reply>
         requires ready { ⌜ Ready fits (now call) room ⌝ }
         requires space { ⌜ vec-len (now probes) < vec-cap (now probes) ⌝ }
-        ensures did { λ r. ⌜ Did (M·Machine .next) (M·Machine .turned) (Reads (M·Machine .state) reading) (place (M·Machine .state (now (self .entry) .machine)) (now (self .entry) .sum)) (latest-first (λ (p : Taken). p .sum) (vec-items (now (probes .entry)))) (now (call .entry)) (meant told r) (place (M·Machine .state (now (self .exit) .machine)) (now (self .exit) .sum)) (latest-first (λ (p : Taken). p .sum) (vec-items (now (probes .exit)))) ⌝ }
+        ensures did { λ r. ⌜ Did (M·Machine .next) (M·Machine .turned) (Reads (M·Machine .state) reading) (place (M·Machine .state (now (self .entry) .machine)) (now (self .entry) .sum .value)) (latest-first (λ (p : Taken). p .sum .value) (vec-items (now (probes .entry)))) (now (call .entry)) (meant told r) (place (M·Machine .state (now (self .exit) .machine)) (now (self .exit) .sum .value)) (latest-first (λ (p : Taken). p .sum .value) (vec-items (now (probes .exit)))) ⌝ }
         ensures space { λ _. ⌜ (vec-len (now (probes .exit)) ≤ vec-len (now (probes .entry)) + 1) × (vec-cap (now (probes .exit)) ≡ vec-cap (now (probes .entry))) ⌝ }
     {
         match call {
@@ -79,7 +88,10 @@ impl<M: Readable> Walk<M> {
 }
 
 // Makes the room for every reading among the calls.
-fn rooms_for<M: Readable>(calls: &[Call<M::Query>], heap: Global) -> Result<Vec<Option<M::Room>>, AllocError>
+fn rooms_for<M: Readable>(
+    calls: &[Call<M::Query>],
+    heap: Global,
+) -> Result<Vec<Option<M::Room>>, AllocError>
     ensures { λ r. ⌜ made r (λ v. (vec-len v ≡ length (now (calls .entry))) × All-ready fits (now (calls .entry)) (vec-items v)) ⌝ }
 {
     let mut rooms = Vec::new(heap);

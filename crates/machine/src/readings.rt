@@ -13,6 +13,7 @@ pub trait Readable: Machine {
     type Query;
     // Room for a reply, made before anything moves.
     type Room: Drop;
+
     type Reply: Drop;
 
     // What a reply says, whatever memory it is held in.
@@ -42,7 +43,9 @@ pub enum NoQuery {}
 
 pub impl<M: Machine> Readable for Stride<M> as StrideReadable {
     type Query = NoQuery;
+
     type Room = ();
+
     type Reply = ();
 
     ghost Told = { Unit {0} };

@@ -6,7 +6,7 @@ ghost use Rattle.machine.specs.Reasons.{number-of};
 pub enum Reason {
     // The machine is at home.
     Home = 21,
-    // No row of the node table applies.
+    // No row applies.
     NoRow = 22,
     // Two ports are not linked to each other.
     Unlinked = 23,

@@ -40,6 +40,7 @@ impl<M> Stride<M> {
 }
 
 const SHORTEST: u32 = 1;
+
 const LONGEST: u32 = 1_000;
 
 pub impl<M: Machine> Machine for Stride<M> as StrideMachine {

@@ -18,6 +18,6 @@ returns c =
     let home = c .back-back .last .self in
     let is = c .sum .ensures in
     record {
-      value = answered (at (new .machine) (new .sum)) (at (out .machine) (out .sum)) (at (home .machine) (home .sum)) (c .forward-forward .result) (c .back-back .result) _ (rw (c .new-walk .ensures .0, c .new-walk .ensures .1) refl) (c .forward-forward .ensures) (c .back-back .ensures) (omega (arith, ints));
+      value = answered (at (new .machine) (new .sum .value)) (at (out .machine) (out .sum .value)) (at (home .machine) (home .sum .value)) (c .forward-forward .result) (c .back-back .result) _ (rw (c .new-walk .ensures .0, c .new-walk .ensures .1) refl) (c .forward-forward .ensures) (c .back-back .ensures) (omega (arith, ints));
       computed = out-and-back;
     }

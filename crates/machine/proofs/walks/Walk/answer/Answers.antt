@@ -11,7 +11,7 @@ use Rattle.machine.proofs.Answering.{did-forward, did-back, did-sum, did-probe
 use Rattle.machine.proofs.walks.Walk.answer.Needs as need
 
 abbrev sum-of : Probe → ℤ
-sum-of p = p .sum
+sum-of p = p .sum .value
 
 pub returns-in-Forward : need.returns-in-Forward
 returns-in-Forward g c = record { did = did-forward (c .in-Forward .is) (c .forward .ensures); space = search needs }

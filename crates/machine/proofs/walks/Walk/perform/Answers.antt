@@ -46,9 +46,15 @@ pub loop-call-holds : need.loop-call-holds
 loop-call-holds g c =
     let answers = c .in-Continue-answers .ensures tt .made in
     let probes = c .in-Continue-probes .ensures tt .made in
-    let rooms = c .in-Continue-rooms .ensures tt in
-    (answers .1 .0, answers .1 .1, omega (arith, probes .1 .0), probes .1 .1, omega (arith, c .into-iter-rooms .ensures .len, rooms .0), rw (c .into-iter-rooms .ensures .rest) (rooms .1),
-     λ o h r. ran-begun o h (λ (p : Probe). p .sum) (vec-items (c .in-Continue-probes .probes)) (probes .0) r)
+    let rooms = c .in-Continue-rooms .ensures tt in (
+      answers .1 .0,
+      answers .1 .1,
+      omega (arith, probes .1 .0),
+      probes .1 .1,
+      omega (arith, c .into-iter-rooms .ensures .len, rooms .0),
+      rw (c .into-iter-rooms .ensures .rest) (rooms .1),
+      λ o h r. ran-begun o h (λ (p : Probe). p .sum .value) (vec-items (c .in-Continue-probes .probes)) (probes .0) r,
+    )
 
 pub loop-call-again : need.loop-call-again
 loop-call-again g c =
@@ -59,12 +65,15 @@ loop-call-again g c =
     let i = c .loop-call .call-index in
     let inv = c .loop-call .inv in
     let answers = c .loop-call .answers in
-    let one : length (listOf (c .next .result)) ≡ 1 = ap (λ o. length (listOf o)) (c .unwrap .ensures) in
-    (omega (arith, c .push-reserved .ensures .len, inv .0), omega (arith, c .push-reserved .ensures .capacity, inv .1),
-     omega (arith, c .answer-answer .ensures .space .0, inv .2), omega (arith, c .answer-answer .ensures .space .1, inv .3),
-     omega (arith, c .next .ensures .len, one, inv .4),
-     rooms-next (g .M·Readable .fits) calls i (c .call-item .result) xs ys (c .unwrap .result) (c .loop-call-test .taken) (c .call-item .is) first (inv .5) .1,
-     λ o h r. ran-more (meant (g .M·Readable .told)) o h calls i (c .call-item .result) (vec-items answers) (vec-items (c .push-reserved .last .self)) (c .answer-answer .result) (c .loop-call-test .taken) (c .call-item .is) (omega (arith, answers .ok .0, inv .0)) (c .push-reserved .ensures .items) (inv .6 o h r) (c .answer-answer .ensures .did))
+    let one : length (listOf (c .next .result)) ≡ 1 = ap (λ o. length (listOf o)) (c .unwrap .ensures) in (
+      omega (arith, c .push-reserved .ensures .len, inv .0),
+      omega (arith, c .push-reserved .ensures .capacity, inv .1),
+      omega (arith, c .answer-answer .ensures .space .0, inv .2),
+      omega (arith, c .answer-answer .ensures .space .1, inv .3),
+      omega (arith, c .next .ensures .len, one, inv .4),
+      rooms-next (g .M·Readable .fits) calls i (c .call-item .result) xs ys (c .unwrap .result) (c .loop-call-test .taken) (c .call-item .is) first (inv .5) .1,
+      λ o h r. ran-more (meant (g .M·Readable .told)) o h calls i (c .call-item .result) (vec-items answers) (vec-items (c .push-reserved .last .self)) (c .answer-answer .result) (c .loop-call-test .taken) (c .call-item .is) (omega (arith, answers .ok .0, inv .0)) (c .push-reserved .ensures .items) (inv .6 o h r) (c .answer-answer .ensures .did),
+    )
 
 pub returns : need.returns
 returns g c =

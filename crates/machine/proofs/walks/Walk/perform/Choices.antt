@@ -21,5 +21,5 @@ Inv-loop-call g l =
     × (vec-len (l .probes) ≤ l .call-index) × (length (l .calls) ≤ vec-cap (l .probes))
     × (into-iter-len (l .rooms) + l .call-index ≡ length (l .calls))
     × All-ready (r .fits) (drop (l .call-index) (l .calls)) (into-iter-items (l .rooms))
-    × ((o : Place (m .State)) (h : List (Call (g .M·Query .Denot) × Answer (r .Told))) → Ran (m .next) (m .turned) (Reads (m .state) (r .reading)) o h (place (m .state (l .entry .self .machine)) (l .entry .self .sum)) []
-        → Ran (m .next) (m .turned) (Reads (m .state) (r .reading)) o (h ++ paired (take (l .call-index) (l .calls)) (map (meant (r .told)) (vec-items (l .answers)))) (place (m .state (l .self .machine)) (l .self .sum)) (latest-first (λ (p : Probe). p .sum) (vec-items (l .probes))))
+    × ((o : Place (m .State)) (h : List (Call (g .M·Query .Denot) × Answer (r .Told))) → Ran (m .next) (m .turned) (Reads (m .state) (r .reading)) o h (place (m .state (l .entry .self .machine)) (l .entry .self .sum .value)) []
+    → Ran (m .next) (m .turned) (Reads (m .state) (r .reading)) o (h ++ paired (take (l .call-index) (l .calls)) (map (meant (r .told)) (vec-items (l .answers)))) (place (m .state (l .self .machine)) (l .self .sum .value)) (latest-first (λ (p : Probe). p .sum .value) (vec-items (l .probes))))
