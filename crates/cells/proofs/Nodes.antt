@@ -2,7 +2,7 @@
 use mathlib.Core.Path.{_≡_, refl, ap, sym, _∙_}
 use mathlib.Core.Bool.{Bool, true, false, not, cond, _&&_}
 use mathlib.Core.List.{List, [], _∷_}
-use Prim.Native.Nat.{ℕ, zero, suc, _/_, _%_, _<_}
+use Prim.Native.Nat.{ℕ, zero, suc, _/_, _%_, _<_, _≤_}
 use native.Mathlib.Omega.{arith}
 use lib.Dec.{eqb, ltb}
 use lib.ListN.{length, getD}
@@ -35,6 +35,11 @@ pub node-at : (cs : List Cell) (k : ℕ) (d : Cell) → k < length cs → nodeAt
 node-at [] k d h = absurd (omega arith)
 node-at (c ∷ cs) zero d h = refl
 node-at (c ∷ cs) (suc k) d h = node-at cs k d (omega arith)
+
+pub no-node-at : (cs : List Cell) (k : ℕ) → length cs ≤ k → nodeAt (nodesOf cs) k ≡ blank
+no-node-at [] k h = refl
+no-node-at (c ∷ cs) zero h = absurd (omega arith)
+no-node-at (c ∷ cs) (suc k) h = no-node-at cs k (omega arith)
 
 pub inside-then : (cs : List Cell) (p : ℕ) → (p ≡ 4294967295 → ⊥) → ltb (p / 3) (length cs) ≡ inside (nodesOf cs) p
 unfolding inside

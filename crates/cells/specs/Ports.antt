@@ -1,4 +1,5 @@
 -- What a step sees of a network: nodes with a kind, a value and three links, and the ports by their numbers. Assumes nothing.
+use mathlib.Core.Path.{_≡_}
 use mathlib.Core.Bool.{Bool, true, false, not, cond, _&&_}
 use mathlib.Core.List.{List, [], _∷_, map}
 use Prim.Native.Nat.{ℕ, zero, suc, _+_, _*_, _/_, _%_}
@@ -98,3 +99,8 @@ end ns p = cond (inside ns p) (Some (link ns p)) None
 -- the two ports lie in cells, and each is the other's link
 unfoldable pub linked : List Node → ℕ → ℕ → Bool
 linked ns p q = inside ns p && (inside ns q && (eqb (link ns p) q && eqb (link ns q) p))
+
+-- a cell that shows the node of the port, or none where there is no such node
+abbrev pub ShowsNode : List Node → ℕ → Option Cell → Type 0
+ShowsNode ns p (Some c) = nodeAt ns (p / 3) ≡ nodeOf c
+ShowsNode ns p None = nodeAt ns (p / 3) ≡ blank

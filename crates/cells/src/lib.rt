@@ -11,5 +11,6 @@ pub use kinds::KindPartialEq;
 pub use kinds::Port;
 pub use links::ABSENT;
 pub use links::are_linked;
+pub use links::cell_of;
 pub use links::is_inside;
 pub use links::link_of;

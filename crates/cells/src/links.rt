@@ -1,8 +1,5 @@
 ghost use mathlib.Core.Path.{_≡_};
-ghost use Prim.Native.Nat.{ℕ, _+_, _*_, _/_, _%_, _<_, _≤_};
-ghost use lib.ListN.{length};
-ghost use mathlib.Core.Bool.{true};
-ghost use Rattle.cells.specs.Ports.{kindOf, kindNumber, nodesOf, inside, end, linked, placeOf, portAt};
+ghost use Rattle.cells.specs.Ports.{kindOf, kindNumber, nodesOf, inside, end, linked, placeOf, ShowsNode};
 
 use crate::kinds::Cell;
 use crate::kinds::Kind;
@@ -65,6 +62,18 @@ pub fn link_of(cells: &[Cell], port: u32) -> Option<u32>
     }
     let cell = &cells[(port / 3) as usize];
     Some(cell.links[(port % 3) as usize])
+}
+
+// The cell in whose node the port would lie, if there is one.
+pub fn cell_of(cells: &[Cell], port: u32) -> Option<Cell>
+    ensures { λ r. ⌜ ShowsNode (nodesOf (now (cells .entry))) port r ⌝ }
+{
+    let k = (port / 3) as usize;
+    if k < cells.len() {
+        Some(cells[k])
+    } else {
+        None
+    }
 }
 
 // Whether both ports lie in cells, each the other's link.

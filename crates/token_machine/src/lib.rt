@@ -1,4 +1,7 @@
 // The token as a machine: over shared cells and lent memory.
+mod passages;
+mod steps;
 mod tokens;
 
+pub use steps::TokenMachine;
 pub use tokens::Token;
