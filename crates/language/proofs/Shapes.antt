@@ -116,3 +116,6 @@ tree-more (app p t u) subs cells more i (j, k, h, l, m, d, f) = (j, k, h, l, m, 
 tree-more (pair p t u) subs cells more i (j, k, h, l, m, d, f) = (j, k, h, l, m, tree-more t subs cells more j d, tree-more u subs cells more k f)
 tree-more (split p v w t u) subs cells more i (j, k, h, l, m, d, f) = (j, k, h, l, m, tree-more t subs cells more j d, tree-more u subs cells more k f)
 tree-more (iter p t u v) subs cells more i (j, k, q, h, l, m, n, d, f, g) = (j, k, q, h, l, m, n, tree-more t subs cells more j d, tree-more u subs cells more k f, tree-more v subs cells more q g)
+
+pub shaped-as : (subs : List Subterm) (cells : List TypeCell) (i : ℕ) (x : Subterm) (s : Shape) → getD subs i blank ≡ x → x .shape ≡ s → (t : Tree ℕ) → Denotes subs cells i t → Shaped subs cells i (x .place) s t
+shaped-as subs cells i x s e f t d = subst (λ q. Shaped subs cells i (x .place) q t) f (shaped subs cells i t x e d)

@@ -164,13 +164,13 @@ knows-one m b h f e T x q k d y =
 
 -- room for what is still to be checked
 module _ (subs : List Subterm) (i : ℕ) (m₀ : Checker) (r : Ready subs i m₀) (k : ℕ) (js : List Judgement) (m : Checker) (f : Sofar subs k js m₀ m) where
-  cells-so-far : length (cellsOf m) ≤ length (cellsOf m₀) + k
+  pub cells-so-far : length (cellsOf m) ≤ length (cellsOf m₀) + k
   cells-so-far = let g = f .grown in omega (arith, g .few, simp length-append at (ap length (g .cells)))
 
-  typings-so-far : length (typingsOf m) ≡ length (typingsOf m₀) + length js
+  pub typings-so-far : length (typingsOf m) ≡ length (typingsOf m₀) + length js
   typings-so-far = let g = f .grown in omega (arith, lists-length subs (cellsOf m) (f .new) js (f .lists), simp length-append at (ap length (g .typings)))
 
-  context-so-far : length (contextOf m) ≡ length (contextOf m₀)
+  pub context-so-far : length (contextOf m) ≡ length (contextOf m₀)
   context-so-far = ap length (f .grown .context)
 
   pub type-space : k < subterms (erase (r .tree)) → length (cellsOf m) < typeRoom
@@ -182,7 +182,7 @@ module _ (subs : List Subterm) (i : ℕ) (m₀ : Checker) (r : Ready subs i m₀
   pub context-space : (n : ℕ) → n < 2 * subterms (erase (r .tree)) → length (contextOf m) + n < 4096
   context-space n h = omega (arith, context-so-far, r .context-room)
 
-  pub ready-next : (j : ℕ) (t : Tree ℕ) → Denotes subs (cellsOf m₀) j t → k + subterms (erase t) ≤ subterms (erase (r .tree)) → length js + subterms (erase t) ≤ subterms (erase (r .tree)) → Ready subs j m
+  abbrev pub ready-next : (j : ℕ) (t : Tree ℕ) → Denotes subs (cellsOf m₀) j t → k + subterms (erase t) ≤ subterms (erase (r .tree)) → length js + subterms (erase t) ≤ subterms (erase (r .tree)) → Ready subs j m
   ready-next j t d h n =
       let g = f .grown in
       record {
@@ -196,7 +196,7 @@ module _ (subs : List Subterm) (i : ℕ) (m₀ : Checker) (r : Ready subs i m₀
         context-room = omega (arith, context-so-far, r .context-room)
       }
 
-pub ready-under : (subs : List Subterm) (j : ℕ) (m b : Checker) (h : Hypothesis) → (r : Ready subs j m) → Bound (h ∷ []) m b → (T : Ty) → DenotesType (cellsOf m) (h .cell) T → length (contextOf m) + suc (2 * subterms (erase (r .tree))) ≤ 4096 → Ready subs j b
+abbrev pub ready-under : (subs : List Subterm) (j : ℕ) (m b : Checker) (h : Hypothesis) → (r : Ready subs j m) → Bound (h ∷ []) m b → (T : Ty) → DenotesType (cellsOf m) (h .cell) T → length (contextOf m) + suc (2 * subterms (erase (r .tree))) ≤ 4096 → Ready subs j b
 ready-under subs j m b h r f T d n =
     record {
       tree = r .tree;

@@ -1,6 +1,6 @@
 -- Each sub-term of a tree with its type, and the sums over them. Assumes nothing.
 use mathlib.Core.List.{List, [], _∷_, _++_}
-use Prim.Native.Nat.{ℕ, _+_, max}
+use Prim.Native.Nat.{ℕ, _+_, _≤_, max}
 use Rattle.calculus.specs.Types.{Ty, N, _⇒_, _⊗_, height, naturals}
 use Rattle.syntax.specs.Trees.{Tree, occ, num, succ, lam, app, pair, split, iter}
 use Rattle.language.specs.Infer.{Env, put}
@@ -96,3 +96,12 @@ share j = counted (j .subject) (naturals (j .type))
 abbrev pub highest : List Judgement → ℕ
 highest [] = 0
 highest (j ∷ js) = max (height (j .type)) (highest js)
+
+-- no sub-term's type is higher than 64
+abbrev pub Low : List Judgement → Type 0
+Low [] = Unit {0}
+Low (j ∷ js) = (height (j .type) ≤ 64) × Low js
+
+-- the types of no variable: that of a closed program
+abbrev pub nobody : Env
+nobody x = N

@@ -2,3 +2,4 @@ pub mod Infer
 pub mod Measures
 pub mod Judgements
 pub mod Checks
+pub mod Counts

@@ -59,10 +59,10 @@ impl TypeTable {
         place
     }
 
-    pub fn height(&self, i: usize) -> usize
-        ensures { λ r. ⌜ r ≡ getD (vec-items (now (self .entry) .measures)) i number .height ⌝ }
+    pub fn measure(&self, i: usize) -> Measure
+        ensures { λ r. ⌜ r ≡ getD (vec-items (now (self .entry) .measures)) i number ⌝ }
     {
-        measure_of(&self.measures, i).height
+        measure_of(&self.measures, i)
     }
 
     pub fn cell(&self, i: usize) -> TypeCell

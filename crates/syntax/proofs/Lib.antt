@@ -1,1 +1,5 @@
 pub mod Examples
+pub mod Lexing
+pub mod Scanning
+pub mod TypeSteps
+pub mod NameSteps

@@ -5,3 +5,7 @@ pub mod Grammar
 pub mod Parse
 pub mod Names
 pub mod Reads
+pub mod Layout
+pub mod Scopes
+pub mod Steps
+pub mod Held

@@ -20,11 +20,17 @@ Placed = ℕ × Sign
 abbrev pub blank : ℕ → Bool
 blank b = eqb b 32 || eqb b 10
 
-abbrev pub letter : ℕ → Bool
-letter b = leb 97 b && leb b 122
+-- a byte from low to high
+abbrev pub within : ℕ → ℕ → ℕ → Bool
+within low high b = leb low b && leb b high
 
+-- a to z
+abbrev pub letter : ℕ → Bool
+letter = within 97 122
+
+-- 0 to 9
 abbrev pub digit : ℕ → Bool
-digit b = leb 48 b && leb b 57
+digit = within 48 57
 
 -- does the text go on with such a byte?
 abbrev pub begins : (ℕ → Bool) → List ℕ → Bool

@@ -1,0 +1,4 @@
+use Rattle.language.proofs.checker.Checker.+check.Given as given
+
+abbrev pub μ-check : given.MeasureT-check
+μ-check l = l .i
