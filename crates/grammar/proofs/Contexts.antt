@@ -73,7 +73,7 @@ keys-free (ty-split {x = x} {y = y} {t = t} {Γ = Γ} {Δ₂ = Δ₂} d e p q) =
 keys-free (ty-iter {t = t} {u = u} {Γ = Γ} {Δ = Δ} {Θ = Θ} d e f) =
     keys-append Γ (Δ ++ Θ) ∙ (rw (keys-free d) (ap (λ l. free t ++ l) (keys-append Δ Θ ∙ (rw (keys-free e) (ap (λ l. free u ++ l) (keys-free f))))))
 
-count-without : (x y : ℕ) (l : List ℕ) → eqb x y ≡ false → count x (without y l) ≡ count x l
+pub count-without : (x y : ℕ) (l : List ℕ) → eqb x y ≡ false → count x (without y l) ≡ count x l
 count-without x y [] n = refl
 count-without x y (z ∷ l) n =
     elim (cases-bool (eqb y z)) [

@@ -7,3 +7,6 @@ mod Runs
 mod Simulation
 mod Limits
 mod Whole
+mod Places
+mod Names
+mod Naming

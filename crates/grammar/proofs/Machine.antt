@@ -10,6 +10,7 @@ use lib.Chars.{codes}
 use lib.Dec.{eqb, leb, ltb}
 use lib.ListN.{length}
 use Rattle.std.proofs.shelf.Tests.{eq-eqb, eqb-true, and-parts, not-true, cases-bool}
+use Rattle.std.proofs.shelf.Equals.{sameBytes-decides}
 use Rattle.std.specs.shelf.Text.{sameBytes}
 use Rattle.calculus.specs.Types.{Ty, N, _⇒_, _⊗_}
 use Rattle.syntax.specs.declared.refusal.Fault.{Fault}
@@ -133,10 +134,7 @@ next (only m) x = cond (isMark m x) (some (alone plain (λ p. tt))) none
 
 -- a run of letters that is a word
 same-is : (v w : List ℕ) → sameBytes v w ≡ true → v ≡ w
-same-is [] [] h = refl
-same-is [] (y ∷ w) h = let z : _≡_ {A = ℕ} 0 1 = cc in absurd (omega arith)
-same-is (x ∷ v) [] h = let z : _≡_ {A = ℕ} 0 1 = cc in absurd (omega arith)
-same-is (x ∷ v) (y ∷ w) h = let p = and-parts (eqb x y) (sameBytes v w) h in cc (eqb-true x y (p .0), same-is v w (p .1))
+same-is v w h = sameBytes-decides v w .0 h
 
 no-word : (w : List ℕ) → isName w ≡ true → (isLet w ≡ false) × (isIter w ≡ false)
 no-word w h =

@@ -4,3 +4,4 @@ pub mod Faults
 pub mod Typings
 pub mod Roles
 pub mod Reading
+pub mod Naming
