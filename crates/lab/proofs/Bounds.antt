@@ -8,8 +8,7 @@ use lib.Dec.{eqb, leb}
 use borrow.Author.Tests.{eqb-false}
 use lib.ListN.{length, getD, set, replicate}
 use Rattle.cells.specs.Ports.{Node, inside, link, linked}
-use Rattle.machine.specs.Steps.{Next, to, go}
-use Rattle.machine.specs.Lawful.{go-none, go-split}
+use Rattle.machine.specs.Steps.{Next, to}
 use Rattle.stack.specs.Shelving.{shelf, with-shelf, shelf-room, cells-held}
 use Rattle.token.specs.declared.memory.Letter.{Letter}
 use Rattle.token.specs.declared.memory.Side.{Side}
@@ -210,14 +209,14 @@ entrance-low ns = by (inside ns (link ns 0)) refl
   by true h = let low = inside-low ns (link ns 0) h in omega arith
   by false h = omega arith
 
-bounded-open : (ns : List Node) (rs : Rooms) (d : DataCell) → LowData d → Bounded 0 (opened ns rs d)
+pub bounded-open : (ns : List Node) (rs : Rooms) (d : DataCell) → LowData d → Bounded 0 (opened ns rs d)
 bounded-open ns rs d h = by (eqb (rs .datas) 0) refl
   where
   by : (b : Bool) → eqb (rs .datas) 0 ≡ b → Bounded 0 (record { nodes = ns; from = 0; to = entrance ns; stacks = record { letters = []; iters = []; datas = cond b [] (d ∷ []); shelves = replicate 64 [] }; rooms = rs })
   by true e = record { from = omega arith; to = entrance-low ns; letters = omega arith; iters = omega arith; datas = omega arith; low = record { datas = tt; iters = tt; shelves = none-shelved 64 }; held = omega (arith, none-held 64) }
   by false e = record { from = omega arith; to = entrance-low ns; letters = omega arith; iters = omega arith; datas = let ne = eqb-false (rs .datas) 0 e in omega arith; low = record { datas = (h, tt); iters = tt; shelves = none-shelved 64 }; held = omega (arith, none-held 64) }
 
-bounded-step : (k : ℕ) (s t : State) → Bounded k s → next s ≡ to t → Bounded (suc k) t
+pub bounded-step : (k : ℕ) (s t : State) → Bounded k s → next s ≡ to t → Bounded (suc k) t
 bounded-step k s t b e =
     let (r, h, same) = stepping s t e in
     let l = is-linked (s .nodes) (exitTo s r) (link (s .nodes) (exitTo s r)) (h .goes) in
@@ -240,11 +239,3 @@ bounded-step k s t b e =
       low = low-changed (valueTo s) (s .stacks .letters) (s .stacks .shelves) (r .change) (s .stacks .iters) (s .stacks .datas) (b .low) tops;
       held = omega arith;
     })
-
-pub bounded : (ns : List Node) (rs : Rooms) (d : DataCell) → LowData d → (k : ℕ) (t : State) → go next k (opened ns rs d) ≡ to t → Bounded k t
-bounded ns rs d h zero t e =
-    let same : opened ns rs d ≡ t = cc (go-none next (opened ns rs d)) in
-    subst (Bounded 0) same (bounded-open ns rs d h)
-bounded ns rs d h (suc k) t e =
-    let (u, a, b) = go-split next k (opened ns rs d) t e in
-    bounded-step k u t (bounded ns rs d h k u a) b

@@ -1,3 +1,5 @@
 pub mod Distances
 pub mod Programs
+pub mod Listings
 pub mod Bounds
+pub mod Lengths
