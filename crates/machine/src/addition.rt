@@ -10,14 +10,14 @@ use crate::reasons::Reason;
 use std::alloc::AllocError;
 use std::alloc::Global;
 
-#[derive(Clone, Copy, PartialEq, Eq, Debug)]
+#[derive(Clone, Copy)]
 pub enum Direction {
     Out,
     Home,
 }
 
 // The addition machine: out, each step takes one from a and gives it to b; home, the other way.
-#[derive(Clone, Copy, PartialEq, Eq, Debug)]
+#[derive(Clone, Copy)]
 pub struct Addition {
     pub a: u32,
     pub b: u32,
