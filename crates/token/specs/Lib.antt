@@ -4,3 +4,4 @@ pub mod Next
 pub mod Rows
 pub mod Distance
 pub mod Reach
+pub mod Line

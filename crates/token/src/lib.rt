@@ -1,5 +1,6 @@
-// The token over shared cells and lent memory: its table of rows, its step and turn, its line and its number.
+// What a token is: its state, the table of its rows, its next state, its laws and its line.
 mod memory;
+mod texts;
 
 pub use memory::DataCell;
 pub use memory::DataCellDebug;
@@ -11,3 +12,6 @@ pub use memory::Letter;
 pub use memory::LetterDebug;
 pub use memory::LetterPartialEq;
 pub use memory::Side;
+pub use texts::DataCellText;
+pub use texts::IterCellText;
+pub use texts::LetterText;

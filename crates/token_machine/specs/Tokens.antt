@@ -1,6 +1,7 @@
 -- What state a token is in. Assumes nothing.
 use Prim.Native.Nat.{ℕ, min, _/_}
 use mathlib.Core.Path.{_≡_}
+use mathlib.Core.Bool.{Bool, _&&_}
 use mathlib.Core.List.{List}
 use denote.Ref.{now}
 use Rattle.std.specs.declared.option.Option.{Option}
@@ -13,7 +14,7 @@ use Rattle.machine.specs.declared.reasons.Reason.the-variants.{NoNumber}
 use Rattle.stack.specs.Stacks.{held, room}
 use Rattle.stack.specs.Shelving.{shelves, complete}
 use Rattle.token.specs.Table.{Stacks}
-use Rattle.token.specs.State.{Rooms, State, numberOf}
+use Rattle.token.specs.State.{Rooms, State, isEmpty, allEmpty, numberOf}
 use Rattle.token_machine.specs.declared.tokens.Token.{Token}
 
 abbrev pub stacksOf : Token → Stacks
@@ -28,6 +29,10 @@ stateOf t = record { nodes = nodesOf (now (t .cells)); from = t .from; to = t .t
 -- the capacities in use, of memory of these lengths
 abbrev pub capacities : (letters iters datas shelves : ℕ) → Rooms
 capacities l i d s = record { letters = min 4096 l; iters = min 1024 i; datas = min 4096 d; shelves = min 64 (s / 64) }
+
+-- m, i and the shelves are empty
+abbrev pub isBare : Stacks → Bool
+isBare s = isEmpty (s .letters) && (isEmpty (s .iters) && allEmpty (s .shelves))
 
 -- the number that a token brings home, or the reason why there is none
 abbrev pub NumberRead : State → Result ℕ Reason → Type 0

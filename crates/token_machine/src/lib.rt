@@ -1,4 +1,6 @@
 // The token as a machine: over shared cells and lent memory.
+mod lines;
+mod numbers;
 mod passages;
 mod steps;
 mod tokens;
