@@ -12,7 +12,7 @@ use Rattle.syntax.specs.declared.program.TypeCell.{TypeCell}
 use Rattle.syntax.specs.declared.program.Shape.{Shape}
 use Rattle.syntax.specs.declared.program.Shape.the-variants.{Variable, Number, Successor, Function, Application, Pair, Let, Iterator}
 use Rattle.syntax.specs.declared.program.Subterm.{Subterm}
-use Rattle.language.specs.declared.checker.Typing.{Typing}
+use Rattle.language.specs.declared.typing.Typing.{Typing}
 use Rattle.language.specs.declared.measure.Measure.{Measure}
 use Rattle.language.specs.declared.counts.Facts.{Facts}
 use Rattle.language.specs.Measures.{measureOf, number, HeightsOf, NaturalsOf}

@@ -19,7 +19,7 @@ use Rattle.syntax.specs.declared.program.Subterm.{Subterm}
 use Rattle.syntax.specs.declared.refusal.Refusal.{Refusal}
 use Rattle.language.specs.declared.checker.Checker.{Checker}
 use Rattle.language.specs.declared.checker.Hypothesis.{Hypothesis}
-use Rattle.language.specs.declared.checker.Typing.{Typing}
+use Rattle.language.specs.declared.typing.Typing.{Typing}
 use Rattle.language.specs.Infer.{Checked, good, bad, infer, Env, put}
 use Rattle.language.specs.Measures.{typeRoom}
 use Rattle.language.specs.Judgements.{Judgement, judge, judgements, typeOf}

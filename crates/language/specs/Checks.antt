@@ -18,7 +18,7 @@ use Rattle.syntax.specs.declared.refusal.Refusal.{Refusal}
 use Rattle.syntax.specs.declared.refusal.Fault.the-variants.{IllTyped}
 use Rattle.language.specs.declared.checker.Checker.{Checker}
 use Rattle.language.specs.declared.checker.Hypothesis.{Hypothesis}
-use Rattle.language.specs.declared.checker.Typing.{Typing}
+use Rattle.language.specs.declared.typing.Typing.{Typing}
 use Rattle.language.specs.Infer.{Checked, good, bad, infer, splitRule, Env}
 use Rattle.language.specs.Measures.{typeRoom}
 use Rattle.language.specs.Judgements.{Judgement, judgements, typeOf}

@@ -1,13 +1,17 @@
 -- What is counted of a checked program. Assumes nothing.
 use mathlib.Core.Path.{_≡_}
 use mathlib.Core.List.{List}
-use Prim.Native.Nat.{ℕ, _≤_}
+use Prim.Native.Nat.{ℕ, _≤_, _<_}
+use Rattle.std.specs.declared.result.Result.{Result}
+use Rattle.std.specs.declared.result.Result.the-variants.{Ok, Err}
+use Rattle.syntax.specs.declared.refusal.Refusal.{Refusal}
+use Rattle.syntax.specs.declared.refusal.Fault.the-variants.{ManyIterators}
 use lib.ListN.{length}
 use Rattle.syntax.specs.declared.program.TypeCell.{TypeCell}
 use Rattle.syntax.specs.declared.program.Shape.{Shape}
 use Rattle.syntax.specs.declared.program.Shape.the-variants.{Variable, Number, Successor, Function, Application, Pair, Let, Iterator}
 use Rattle.syntax.specs.declared.program.Subterm.{Subterm}
-use Rattle.language.specs.declared.checker.Typing.{Typing}
+use Rattle.language.specs.declared.typing.Typing.{Typing}
 use Rattle.language.specs.declared.measure.Measure.{Measure}
 use Rattle.language.specs.declared.counts.Facts.{Facts}
 use Rattle.language.specs.Judgements.{Judgement, sum, aSuccessor, anIterator, share, highest, Low}
@@ -58,3 +62,8 @@ pub record Counts (js : List Judgement) (f : Facts) : Type 0 where
   pub successors : f .successors ≡ sum (λ j. aSuccessor (j .subject)) js
   pub height : f .height ≡ highest js
   pub weight : f .weight ≡ sum share js
+
+-- the counts, unless there are more than 64 iterators
+abbrev pub Limited : List Judgement → Result Facts Refusal → Type 0
+Limited js (Ok f) = Counts js f × (sum (λ j. anIterator (j .subject)) js ≤ 64)
+Limited js (Err x) = (x ≡ record { fault = ManyIterators; place = 0 }) × (64 < sum (λ j. anIterator (j .subject)) js)

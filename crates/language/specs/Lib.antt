@@ -3,3 +3,4 @@ pub mod Measures
 pub mod Judgements
 pub mod Checks
 pub mod Counts
+pub mod Accepts

@@ -12,7 +12,7 @@ ghost use Rattle.language.specs.Measures.{IsType, typeRoom};
 ghost use Rattle.language.specs.Checks.{cellsOf, typingsOf, contextOf, cellOf, illTyped, Agrees, Splits, Noted, Ready, Checks};
 use crate::checker::Checker;
 use crate::checker::Hypothesis;
-use crate::checker::Typing;
+use crate::typing::Typing;
 use syntax::program::Shape;
 use syntax::program::Subterm;
 use syntax::program::TypeCell;

@@ -2,18 +2,12 @@
 ghost use Prim.Native.Nat.{ℕ, _≤_};
 ghost use Rattle.std.specs.Of.Vec.{vec-cap};
 use crate::table::TypeTable;
+use crate::typing::Typing;
 
 // A variable, known by the place of its binder's name, and its type's cell.
 #[derive(Clone, Copy, PartialEq, Eq, Debug)]
 pub struct Hypothesis {
     pub binder: usize,
-    pub cell: usize,
-}
-
-// A sub-term, by its number, and its type's cell.
-#[derive(Clone, Copy, PartialEq, Eq, Debug)]
-pub struct Typing {
-    pub subterm: usize,
     pub cell: usize,
 }
 

@@ -7,10 +7,10 @@ ghost use Rattle.language.specs.Judgements.{Judgement, Low};
 ghost use Rattle.language.specs.Checks.{Lists};
 ghost use Rattle.language.specs.Counts.{Countable, Counts, iteratorAt, successorAt, shareAt};
 use crate::check::subterm_at;
-use crate::checker::Typing;
 use crate::counts::Facts;
 use crate::measure::Measure;
 use crate::table::TypeTable;
+use crate::typing::Typing;
 use syntax::program::Shape;
 use syntax::program::Subterm;
 

@@ -59,6 +59,16 @@ impl TypeTable {
         place
     }
 
+    // Adds cells, in their order.
+    pub fn load(&mut self, cells: &[TypeCell])
+        requires { ⌜ length (vec-items (now self .cells)) + length (now cells) ≤ typeRoom ⌝ }
+        ensures { λ _. ⌜ vec-items (now (self .exit) .cells) ≡ vec-items (now (self .entry) .cells) ++ now (cells .entry) ⌝ }
+    {
+        for cell in cells {
+            let _ = self.add(*cell);
+        }
+    }
+
     pub fn measure(&self, i: usize) -> Measure
         ensures { λ r. ⌜ r ≡ getD (vec-items (now (self .entry) .measures)) i number ⌝ }
     {

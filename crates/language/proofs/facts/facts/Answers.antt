@@ -4,7 +4,7 @@ use native.Mathlib.Omega.{arith}
 use lib.ListN.{take, getD, length, length-take}
 use lib.Seq.{take-all}
 use Rattle.std.specs.Of.Vec.{vec-items}
-use Rattle.language.specs.declared.checker.Typing.{Typing}
+use Rattle.language.specs.declared.typing.Typing.{Typing}
 use Rattle.language.specs.declared.counts.Facts.{Facts}
 use Rattle.language.specs.Counts.{iteratorAt, successorAt, shareAt, Counts}
 use Rattle.language.proofs.Tally.{tally, tally-more, more, same-facts, shapeOf, measureFor, small, tallied, light, stands-at}
