@@ -10,3 +10,5 @@ mod Whole
 mod Places
 mod Names
 mod Naming
+mod Exact
+mod Known

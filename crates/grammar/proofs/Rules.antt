@@ -97,7 +97,7 @@ has-infers e t A h = complete t e (h .derived) (given-agrees e (free (erase t)))
 
 -- the type of a part in a derivation of the whole is the one that the part has
 as-derived : (e : Env) (t : Tree ℕ) (h : Typable e t) {Γ : Ctx} {A : Ty} → Typed Γ (erase t) A → Agrees e Γ → infer e t ≡ good A
-as-derived e t h d a = has-infers e t (h .0) (h .1) ∙ ap good (alike e (h .1 .derived) d (given-agrees e (free (erase t))) a .type)
+as-derived e t h d a = has-infers e t (h .0) (h .1) ∙ ap good (alike e t (h .1 .derived) d (given-agrees e (free (erase t))) a .type)
 
 -- parts that have types, and a type of the whole, whatever its height
 pub forms : (e : Env) (t : Tree ℕ) {Γ : Ctx} {A : Ty} → Typed Γ (erase t) A → Agrees e Γ → Parts e t → infer e t ≡ within (placeOf t) A

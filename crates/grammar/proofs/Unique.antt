@@ -1,85 +1,76 @@
--- Types are unique: a term's types are functions of the term and of the types of its free variables.
-use mathlib.Core.Path.{_≡_, refl, sym, ap, ap₂, subst, _∙_}
-use mathlib.Core.List.{List, [], _∷_, _++_}
-use Prim.Native.Nat.{ℕ, suc, _+_, max}
-use Rattle.calculus.specs.Types.{Ty, N, _⇒_, _⊗_, height, naturals}
-use Rattle.calculus.specs.Terms.{Term, var, num, succ, lam, app, pair, split, iter}
-use Rattle.calculus.specs.Typing.{Ctx, Typed, ty-var, ty-num, ty-succ, ty-lam, ty-app, ty-pair, ty-split, ty-iter, weight, tallest}
+-- Types are unique: what a derivation says of its sub-terms is what the tree alone says of them.
+use mathlib.Core.Path.{_≡_, refl, sym, ap, subst, _∙_}
+use mathlib.Core.List.{List, [], _∷_, _++_, map}
+use Prim.Native.Nat.{ℕ}
+use Rattle.calculus.specs.Types.{Ty, N, _⇒_, _⊗_}
+use Rattle.calculus.specs.Terms.{Term, var, num as number, succ as successor, lam as function, app as apply, pair as both, split as part, iter as repeat}
+use Rattle.calculus.specs.Typing.{Ctx, Typed, ty-var, ty-num, ty-succ, ty-lam, ty-app, ty-pair, ty-split, ty-iter}
+use Rattle.syntax.specs.Trees.{Tree, occ, num, succ, lam, app, pair, split, iter, erase}
 use Rattle.language.specs.Infer.{Env, put}
+use Rattle.language.specs.Judgements.{first, second, typeOf, Judgement, judge, judgements}
+use Rattle.language.proofs.Sums.{said}
 use Rattle.grammar.specs.Derivations.{Agrees, types}
-use Rattle.grammar.specs.Typings.{Alike, UniqueTypes}
+use Rattle.grammar.specs.Typings.{Alike, UniqueTypes, SumsDerived}
 use Rattle.grammar.proofs.Contexts.{agrees-left, agrees-right, agrees-put}
 
--- the parts of a type, and N where there are none
-abbrev left : Ty → Ty
-left N = N
-left (A ⇒ B) = A
-left (A ⊗ B) = A
+map-append : (js ks : List Judgement) → map (λ j. j .type) (js ++ ks) ≡ map (λ j. j .type) js ++ map (λ j. j .type) ks
+map-append [] ks = refl
+map-append (j ∷ js) ks = ap (λ z. j .type ∷ z) (map-append js ks)
 
-abbrev right : Ty → Ty
-right N = N
-right (A ⇒ B) = B
-right (A ⊗ B) = B
+-- the types of the parts of a whole, and its own after them
+one-part : (js : List Judgement) (Ts : List Ty) (j : Judgement) (A : Ty) → map (λ i. i .type) js ≡ Ts → j .type ≡ A → map (λ i. i .type) (js ++ (j ∷ [])) ≡ Ts ++ (A ∷ [])
+one-part js Ts j A x y = map-append js (j ∷ []) ∙ ap (λ z. z ++ (j .type ∷ [])) x ∙ ap (λ B. Ts ++ (B ∷ [])) y
 
--- a term's type, and the types, the weight and the greatest height of its sub-terms, if it has any
-record Summary : Type 0 where
-  pub type : Ty
-  pub all : List Ty
-  pub weight : ℕ
-  pub height : ℕ
+more-parts : (js ks : List Judgement) (Ts Us : List Ty) → map (λ i. i .type) js ≡ Ts → map (λ i. i .type) ks ≡ Us → map (λ i. i .type) (js ++ ks) ≡ Ts ++ Us
+more-parts js ks Ts Us x y = map-append js ks ∙ ap (λ z. z ++ map (λ i. i .type) ks) x ∙ ap (λ z. Ts ++ z) y
 
-abbrev body : Env → ℕ → ℕ → Ty → Env
-body e x y P = put (put e x (left P)) y (right P)
-
-abbrev sum : Env → Term → Summary
-sum e (var x) = record { type = e x; all = e x ∷ []; weight = naturals (e x); height = height (e x) }
-sum e (num n) = record { type = N; all = N ∷ []; weight = 1; height = 0 }
-sum e (succ t) = let s = sum e t in record { type = N; all = s .all ++ (N ∷ []); weight = 1 + s .weight; height = s .height }
-sum e (lam x T t) =
-    let s = sum (put e x T) t in
-    let A = T ⇒ s .type in
-    record { type = A; all = s .all ++ (A ∷ []); weight = naturals A + s .weight; height = max (height A) (s .height) }
-sum e (app t u) =
-    let s = sum e t in
-    let r = sum e u in
-    let A = right (s .type) in
-    record { type = A; all = s .all ++ (r .all ++ (A ∷ [])); weight = naturals A + (s .weight + r .weight); height = max (height A) (max (s .height) (r .height)) }
-sum e (pair t u) =
-    let s = sum e t in
-    let r = sum e u in
-    let A = s .type ⊗ r .type in
-    record { type = A; all = s .all ++ (r .all ++ (A ∷ [])); weight = naturals A + (s .weight + r .weight); height = max (height A) (max (s .height) (r .height)) }
-sum e (split x y t u) =
-    let s = sum e t in
-    let r = sum (body e x y (s .type)) u in
-    record { type = r .type; all = s .all ++ (r .all ++ (r .type ∷ [])); weight = s .weight + r .weight; height = max (height (r .type)) (max (s .height) (r .height)) }
-sum e (iter t u v) =
-    let s = sum e t in
-    let r = sum e u in
-    let q = sum e v in
-    record { type = q .type; all = s .all ++ (r .all ++ (q .all ++ (q .type ∷ []))); weight = naturals (q .type) + (s .weight + (r .weight + q .weight)); height = max (height (q .type)) (max (s .height) (max (r .height) (q .height))) }
-
--- what a derivation says
-abbrev said : {Γ : Ctx} {t : Term} {A : Ty} → Typed Γ t A → Summary
-said {A = A} d = record { type = A; all = types d; weight = weight d; height = tallest d }
-
-summed : {Γ : Ctx} {t : Term} {A : Ty} (d : Typed Γ t A) (e : Env) → Agrees e Γ → sum e t ≡ said d
-summed ty-var e h = rw (h .0) refl
-summed ty-num e h = refl
-summed (ty-succ d) e h = rw (summed d e h) refl
-summed (ty-lam d p) e h = rw (summed d _ (agrees-put e p h)) refl
-summed (ty-app {Γ = Γ} {Δ = Δ} d d₂) e h = rw (summed d e (agrees-left e Γ Δ h), summed d₂ e (agrees-right e Γ Δ h)) refl
-summed (ty-pair {Γ = Γ} {Δ = Δ} d d₂) e h = rw (summed d e (agrees-left e Γ Δ h), summed d₂ e (agrees-right e Γ Δ h)) refl
-summed (ty-split {Γ = Γ} {Δ₂ = Δ₂} d d₂ p q) e h =
-    rw (summed d e (agrees-left e Γ Δ₂ h)) (rw (summed d₂ _ (agrees-put _ p (agrees-put e q (agrees-right e Γ Δ₂ h)))) refl)
-summed (ty-iter {Γ = Γ} {Δ = Δ} {Θ = Θ} d d₂ d₃) e h =
+-- a derivation gives each sub-term the type that the tree alone gives it, where e types the free variables
+parts : (t : Tree ℕ) (e : Env) {Γ : Ctx} {A : Ty} (d : Typed Γ (erase t) A) → Agrees e Γ → map (λ j. j .type) (judgements e t) ≡ types d
+parts (occ p b) e ty-var h = ap (λ B. B ∷ []) (h .0)
+parts (num p n) e ty-num h = refl
+parts (succ p t) e (ty-succ d) h = one-part _ _ (judge e (succ p t)) N (parts t e d h) refl
+parts (lam p x T t) e (ty-lam {U = U} d q) h = one-part _ _ (judge e (lam p x T t)) (T ⇒ U) (parts t (put e (x .place) T) d (agrees-put e q h)) (sym (said e (lam p x T t) (ty-lam d q) h .type))
+parts (app p t u) e (ty-app {U = U} {Γ = Γ} {Δ = Δ} d d₂) h =
+    more-parts _ _ _ _ (parts t e d (agrees-left e Γ Δ h)) (one-part _ _ (judge e (app p t u)) U (parts u e d₂ (agrees-right e Γ Δ h)) (sym (said e (app p t u) (ty-app d d₂) h .type)))
+parts (pair p t u) e (ty-pair {T = T} {U = U} {Γ = Γ} {Δ = Δ} d d₂) h =
+    more-parts _ _ _ _ (parts t e d (agrees-left e Γ Δ h)) (one-part _ _ (judge e (pair p t u)) (T ⊗ U) (parts u e d₂ (agrees-right e Γ Δ h)) (sym (said e (pair p t u) (ty-pair d d₂) h .type)))
+parts (split p x y t u) e (ty-split {T = T} {U = U} {A = A} {Γ = Γ} {Δ = Θ} {Δ₂ = Δ₂} d d₂ q q₂) h =
+    let s = said e t d (agrees-left e Γ Δ₂ h) in
+    let k = subst (λ B. Agrees (put (put e (x .place) (first B)) (y .place) (second B)) Θ) (s .type) (agrees-put (put e (x .place) T) q (agrees-put e q₂ (agrees-right e Γ Δ₂ h))) in
+    more-parts _ _ _ _ (parts t e d (agrees-left e Γ Δ₂ h)) (one-part _ _ (judge e (split p x y t u)) A (parts u (put (put e (x .place) (first (typeOf e t))) (y .place) (second (typeOf e t))) d₂ k) (sym (said e (split p x y t u) (ty-split d d₂ q q₂) h .type)))
+parts (iter p t u v) e (ty-iter {A = A} {Γ = Γ} {Δ = Δ} {Θ = Θ} d d₂ d₃) h =
     let k = agrees-right e Γ (Δ ++ Θ) h in
-    rw (summed d e (agrees-left e Γ (Δ ++ Θ) h), summed d₂ e (agrees-left e Δ Θ k), summed d₃ e (agrees-right e Δ Θ k)) refl
+    more-parts _ _ _ _ (parts t e d (agrees-left e Γ (Δ ++ Θ) h)) (more-parts _ _ _ _ (parts u e d₂ (agrees-left e Δ Θ k)) (one-part _ _ (judge e (iter p t u v)) A (parts v e d₃ (agrees-right e Δ Θ k)) (sym (said e (iter p t u v) (ty-iter d d₂ d₃) h .type))))
 
-pub alike : (e : Env) {Γ Δ : Ctx} {t : Term} {A B : Ty} (d : Typed Γ t A) (d′ : Typed Δ t B) → Agrees e Γ → Agrees e Δ → Alike d d′
-alike e d d′ h k =
-    let s = sym (summed d e h) ∙ summed d′ e k in
-    record { type = ap (λ r. r .type) s; parts = ap (λ r. r .all) s; weights = ap (λ r. r .weight) s; heights = ap (λ r. r .height) s }
+pub sums : SumsDerived
+sums e t Γ A d h = let s = said e t d h in record { type = sym (s .type); parts = parts t e d h; weights = sym (s .weighs); heights = sym (s .tall) }
+
+pub alike : (e : Env) (t : Tree ℕ) {Γ Δ : Ctx} {A B : Ty} (d : Typed Γ (erase t) A) (d′ : Typed Δ (erase t) B) → Agrees e Γ → Agrees e Δ → Alike d d′
+alike e t {Γ} {Δ} {A} {B} d d′ h k =
+    let r = sums e t Γ A d h in
+    let s = sums e t Δ B d′ k in
+    record { type = sym (r .type) ∙ s .type; parts = sym (r .parts) ∙ s .parts; weights = sym (r .weights) ∙ s .weights; heights = sym (r .heights) ∙ s .heights }
+
+-- every term is some tree's
+abbrev plant : Term → Tree ℕ
+plant (var x) = occ 0 x
+plant (number n) = num 0 n
+plant (successor t) = succ 0 (plant t)
+plant (function x T t) = lam 0 (record { place = x; name = [] }) T (plant t)
+plant (apply t u) = app 0 (plant t) (plant u)
+plant (both t u) = pair 0 (plant t) (plant u)
+plant (part x y t u) = split 0 (record { place = x; name = [] }) (record { place = y; name = [] }) (plant t) (plant u)
+plant (repeat t u v) = iter 0 (plant t) (plant u) (plant v)
+
+planted : (t : Term) → erase (plant t) ≡ t
+planted (var x) = refl
+planted (number n) = refl
+planted (successor t) = ap successor (planted t)
+planted (function x T t) = ap (function x T) (planted t)
+planted (apply t u) = cc (planted t, planted u)
+planted (both t u) = cc (planted t, planted u)
+planted (part x y t u) = cc (planted t, planted u)
+planted (repeat t u v) = cc (planted t, planted u, planted v)
 
 pub unique : UniqueTypes
-unique t A B d d′ = alike (λ x. N) d d′ tt tt
+unique t A B d d′ = subst (λ u. (c : Typed [] u A) (c′ : Typed [] u B) → Alike c c′) (planted t) (λ c c′. alike (λ x. N) (plant t) c c′ tt tt) d d′

@@ -5,3 +5,6 @@ pub mod Typings
 pub mod Roles
 pub mod Reading
 pub mod Naming
+pub mod Answers
+pub mod Exactness
+pub mod Examples

@@ -1,6 +1,6 @@
 -- That types are inferred exactly as the linear rules give them. Assumes nothing.
 use mathlib.Core.Path.{_≡_}
-use mathlib.Core.List.{List, []}
+use mathlib.Core.List.{List, [], map}
 use mathlib.Core.Logic.{_↔_}
 use Prim.Native.Nat.{ℕ}
 use Rattle.calculus.specs.Types.{Ty}
@@ -9,6 +9,7 @@ use Rattle.calculus.specs.Typing.{Ctx, Typed, weight, tallest}
 use Rattle.syntax.specs.Trees.{Tree, erase}
 use Rattle.syntax.specs.declared.refusal.Fault.{Fault}
 use Rattle.language.specs.Infer.{Env, Checked, good, bad, infer}
+use Rattle.language.specs.Judgements.{typeOf, judgements, sum, share, highest}
 use Rattle.grammar.specs.Uses.{Linear}
 use Rattle.grammar.specs.Derivations.{Derives, Has, Agrees, types}
 use Rattle.grammar.specs.Faults.{First}
@@ -37,3 +38,13 @@ pub record Alike {Γ Δ : Ctx} {t : Term} {A B : Ty} (d : Typed Γ t A) (d′ : 
 
 abbrev pub UniqueTypes : Type 0
 UniqueTypes = (t : Term) (A B : Ty) (d : Typed [] t A) (d′ : Typed [] t B) → Alike d d′
+
+-- the sums over the sub-terms that a tree is judged to have are those of its derivation
+pub record Summed (e : Env) (t : Tree ℕ) {Γ : Ctx} {A : Ty} (d : Typed Γ (erase t) A) : Type 0 where
+  pub type : typeOf e t ≡ A
+  pub parts : map (λ j. j .type) (judgements e t) ≡ types d
+  pub weights : sum share (judgements e t) ≡ weight d
+  pub heights : highest (judgements e t) ≡ tallest d
+
+abbrev pub SumsDerived : Type 0
+SumsDerived = (e : Env) (t : Tree ℕ) (Γ : Ctx) (A : Ty) (d : Typed Γ (erase t) A) → Agrees e Γ → Summed e t d

@@ -1,7 +1,9 @@
 // The theorems above reading and checking: what is accepted is what the grammar spells and the linear typing rules derive.
 ghost use Rattle.grammar.specs.Reading.{ReadSpelled, SpelledRead, Unambiguous, RefusedRightly};
 ghost use Rattle.grammar.specs.Naming.{NamesRight, NamesLeast};
-ghost use Rattle.grammar.specs.Typings.{InferredDerived, DerivedInferred, DerivedLinear, FirstFault, UniqueTypes};
+ghost use Rattle.grammar.specs.Exactness.{AcceptedExactly, AcceptedOne, RejectedRightly};
+ghost use Rattle.grammar.specs.Examples.{KnownAnswers};
+ghost use Rattle.grammar.specs.Typings.{InferredDerived, DerivedInferred, DerivedLinear, FirstFault, UniqueTypes, SumsDerived};
 
 // Signs are read exactly as the grammar spells terms within the limits, and a refusal stands at the right sign.
 pub fn signs_read_exactly()
@@ -27,5 +29,21 @@ pub fn types_inferred_exactly()
     ensures linear { λ _. ⌜ DerivedLinear ⌝ }
     ensures first { λ _. ⌜ FirstFault ⌝ }
     ensures unique { λ _. ⌜ UniqueTypes ⌝ }
+    ensures summed { λ _. ⌜ SumsDerived ⌝ }
+{
+}
+
+// A text is accepted exactly when the grammar spells it, no name is bound twice and the linear rules derive it at N, all within the limits;
+// its term and the types of all sub-terms are unique, and a refusal is that of the first question answered with no, at its place.
+pub fn texts_accepted_exactly()
+    ensures exactly { λ _. ⌜ AcceptedExactly ⌝ }
+    ensures one { λ _. ⌜ AcceptedOne ⌝ }
+    ensures rejected { λ _. ⌜ RejectedRightly ⌝ }
+{
+}
+
+// Texts with known answers, computed from their bytes on.
+pub fn known_answers()
+    ensures { λ _. ⌜ KnownAnswers ⌝ }
 {
 }
