@@ -1,12 +1,19 @@
--- Programs within the limits of texts, without iterator, are such as come home.
+-- Accepted programs without iterator are such as come home.
 use mathlib.Core.Path.{_≡_, refl}
+use mathlib.Core.List.{List, [], _∷_, _++_}
 use Prim.Native.Nat.{ℕ, suc, _+_, _*_, _≤_, max}
 use native.Mathlib.Omega.{arith}
 use Rattle.calculus.specs.Terms.{Term, var, num, succ, lam, app, pair, split, iter, subterms, iterators, nodes}
-use Rattle.syntax.specs.Trees.{Tree, occ, num as number, succ as successor, lam as function, app as apply, pair as both, split as part, iter as repeat, erase}
+use Rattle.syntax.specs.Trees.{Name, Binder, Tree, occ, num as number, succ as successor, lam as function, app as apply, pair as both, split as part, iter as repeat, erase}
 use Rattle.syntax.specs.Grammar.{size, largest, Within}
+use Rattle.syntax.specs.Names.{resolve}
 use Rattle.geometry.specs.Derivations.{NumbersWithin}
+use Rattle.geometry.specs.Network.{network}
+use Rattle.homecoming.specs.Home.{Home}
 use Rattle.homecoming.specs.Programs.{Program}
+use Rattle.homecoming.proofs.Programs.{networked, programs-come-home}
+use Rattle.homecoming.proofs.Further.{further-nodes-do-no-harm}
+use Rattle.lab.specs.Homecoming.{termOf, AcceptedComeHome}
 
 -- without iterator a term makes at most a node for each sub-term
 few-nodes : (t : Term) → iterators t ≡ 0 → nodes t ≤ subterms t
@@ -19,31 +26,44 @@ few-nodes (pair t u) h = let a = few-nodes t (omega arith) in let b = few-nodes 
 few-nodes (split x y t u) h = let a = few-nodes t (omega arith) in let b = few-nodes u (omega arith) in omega arith
 few-nodes (iter t u v) h = absurd (omega arith)
 
--- a tree has as many sub-terms as its term
-sizes : (t : Tree ℕ) → size t ≡ subterms (erase t)
-sizes (occ p x) = refl
-sizes (number p n) = refl
-sizes (successor p t) = let a = sizes t in omega arith
-sizes (function p x T t) = let a = sizes t in omega arith
-sizes (apply p t u) = let a = sizes t in let b = sizes u in omega arith
-sizes (both p t u) = let a = sizes t in let b = sizes u in omega arith
-sizes (part p x y t u) = let a = sizes t in let b = sizes u in omega arith
-sizes (repeat p t u v) = let a = sizes t in let b = sizes u in let c = sizes v in omega arith
+-- the term of a tree has as many sub-terms as the tree
+sizes : (σ : List Binder) (t : Tree Name) → subterms (erase (resolve σ t)) ≡ size t
+sizes σ (occ p w) = refl
+sizes σ (number p n) = refl
+sizes σ (successor p t) = let a = sizes σ t in omega arith
+sizes σ (function p x T t) = let a = sizes (σ ++ (x ∷ [])) t in omega arith
+sizes σ (apply p t u) = let a = sizes σ t in let b = sizes σ u in omega arith
+sizes σ (both p t u) = let a = sizes σ t in let b = sizes σ u in omega arith
+sizes σ (part p x y t u) = let a = sizes σ t in let b = sizes (σ ++ (x ∷ y ∷ [])) u in omega arith
+sizes σ (repeat p t u v) = let a = sizes σ t in let b = sizes σ u in let c = sizes σ v in omega arith
 
--- numbers no greater than the greatest
-numbers : (t : Tree ℕ) (b : ℕ) → largest t ≤ b → NumbersWithin b (erase t)
-numbers (occ p x) b h = tt
-numbers (number p n) b h = h
-numbers (successor p t) b h = numbers t b h
-numbers (function p x T t) b h = numbers t b h
-numbers (apply p t u) b h = (numbers t b (omega arith), numbers u b (omega arith))
-numbers (both p t u) b h = (numbers t b (omega arith), numbers u b (omega arith))
-numbers (part p x y t u) b h = (numbers t b (omega arith), numbers u b (omega arith))
-numbers (repeat p t u v) b h = (numbers t b (omega arith), numbers u b (omega arith), numbers v b (omega arith))
+-- and no greater number
+numbers : (b : ℕ) (σ : List Binder) (t : Tree Name) → largest t ≤ b → NumbersWithin b (erase (resolve σ t))
+numbers b σ (occ p w) h = tt
+numbers b σ (number p n) h = h
+numbers b σ (successor p t) h = numbers b σ t h
+numbers b σ (function p x T t) h = numbers b (σ ++ (x ∷ [])) t h
+numbers b σ (apply p t u) h = (numbers b σ t (omega arith), numbers b σ u (omega arith))
+numbers b σ (both p t u) h = (numbers b σ t (omega arith), numbers b σ u (omega arith))
+numbers b σ (part p x y t u) h = (numbers b σ t (omega arith), numbers b (σ ++ (x ∷ y ∷ [])) u (omega arith))
+numbers b σ (repeat p t u v) h = (numbers b σ t (omega arith), numbers b σ u (omega arith), numbers b σ v (omega arith))
 
-pub plain-program : (t : Tree ℕ) → Within t → iterators (erase t) ≡ 0 → Program (erase t)
+plain-program : (t : Tree Name) → Within t → iterators (termOf t) ≡ 0 → Program (termOf t)
 plain-program t w h =
-    let few = few-nodes (erase t) h in
-    let same = sizes t in
+    let few = few-nodes (termOf t) h in
+    let same = sizes [] t in
     let most = w .subterms in
-    record { plain = h; numbers = numbers t 1000000000 (w .numbers); few = omega arith }
+    record { plain = h; numbers = numbers 1000000000 [] t (w .numbers); few = omega arith }
+
+pub accepted-come-home : AcceptedComeHome
+accepted-come-home text t a none rest rs enough =
+    let d = a .derived .derived in
+    let p = plain-program t (a .within) none in
+    let home = programs-come-home (termOf t) d rs p enough in
+    record {
+      number = home .number;
+      steps = home .steps;
+      distance = further-nodes-do-no-harm (network (termOf t)) rest rs (home .number) (home .steps) (networked (termOf t) d p .sound) (home .distance);
+      odd = home .odd;
+      soon = home .soon;
+    }

@@ -1,3 +1,4 @@
 pub mod Distances
+pub mod Homecoming
 pub mod Listings
 pub mod Bounds
