@@ -1,15 +1,16 @@
 // Walks the addition machine from 3/2 there and back, and prints each action.
 use machine::Addition;
 use machine::AdditionMachine;
-use machine::AdditionReadable;
-use machine::Answer;
-use machine::Call;
 use machine::Direction;
 use machine::Grant;
 use machine::Stride;
 use machine::StrideMachine;
 use machine::Walk;
 use machine::out_and_back;
+use runs::AdditionReadable;
+use runs::Answer;
+use runs::Call;
+use runs::perform;
 use std::io;
 
 fn main(rt: LibcRuntime) -> io::Result<()> {
@@ -79,7 +80,7 @@ fn whole(rt: &LibcRuntime) -> io::Result<()> {
 
 // Performs the calls and prints each with its answer.
 fn act(rt: &LibcRuntime, walk: &mut Walk<Addition>, calls: &[Call<()>]) -> io::Result<()> {
-    let answers = walk.perform(calls, rt.alloc())?;
+    let answers = perform(walk, calls, rt.alloc())?;
     for (call, answer) in calls.iter().zip(answers.iter()) {
         show(rt, call, answer)?;
     }

@@ -7,11 +7,11 @@ ghost use Rattle.ladder.specs.Rungs.{Rung, rung, climb, other-way, Tried};
 ghost use Rattle.ladder.specs.Lawful.{ladder-laws};
 use machine::Grant;
 use machine::Machine;
-use machine::Readable;
 use machine::Reason;
 use machine::Stride;
 use machine::StrideMachine;
 use machine::Walk;
+use runs::Readable;
 use std::alloc::AllocError;
 use std::alloc::Global;
 
@@ -112,10 +112,11 @@ pub fn up_and_back(ladder: Ladder, k: u32, wanted: u32) -> (Grant, Ladder)
 #[cfg(test)]
 mod tests {
     use super::*;
-    use machine::Answer;
-    use machine::Call;
     use machine::ReasonDebug;
     use machine::ReasonPartialEq;
+    use runs::Answer;
+    use runs::Call;
+    use runs::perform;
     use std::test::*;
 
     #[test]
@@ -145,7 +146,7 @@ mod tests {
             Call::Read(()),
             Call::Keep,
         ];
-        let answers = walk.perform(&calls, rt.alloc())?;
+        let answers = perform(&mut walk, &calls, rt.alloc())?;
         let mut heights = 0;
         for answer in answers.iter() {
             if let Answer::Read(height) = answer {

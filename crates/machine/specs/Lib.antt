@@ -4,6 +4,4 @@ pub mod Additions
 pub mod Strides
 pub mod Lawful
 pub mod Walks
-pub mod Readings
-pub mod Runs
 pub mod Worked

@@ -2,13 +2,8 @@ ghost use mathlib.Core.Path.{_≡_};
 ghost use Rattle.machine.specs.Steps.{Took};
 ghost use Rattle.machine.specs.Additions.{Standing, standing, passing, onward, mirrored};
 ghost use Rattle.machine.specs.Lawful.{addition-laws};
-ghost use Prim.Native.Nat.{ℕ};
-ghost use Rattle.std.specs.Vec.{made};
 use crate::machines::Machine;
-use crate::readings::Readable;
 use crate::reasons::Reason;
-use std::alloc::AllocError;
-use std::alloc::Global;
 
 #[derive(Clone, Copy)]
 pub enum Direction {
@@ -47,33 +42,6 @@ pub impl Machine for Addition as AdditionMachine {
             Direction::Out => Direction::Home,
             Direction::Home => Direction::Out,
         };
-    }
-}
-
-// The one reading is the two numbers.
-pub impl Readable for Addition as AdditionReadable {
-    type Query = ();
-
-    type Room = ();
-
-    type Reply = (u32, u32);
-
-    ghost Told = { ℕ × ℕ };
-
-    ghost told = { λ r. r };
-
-    ghost reading = { λ m s q. (m .a, m .b) };
-
-    ghost fits = { λ q x. Unit {0} };
-
-    fn room(query: &(), heap: Global) -> Result<(), AllocError>
-        ensures { λ r. ⌜ made r (λ x. Unit {0}) ⌝ }
-    {
-        Ok(())
-    }
-
-    fn reply(&self, sum: i64, query: &(), room: ()) -> (u32, u32) {
-        (self.a, self.b)
     }
 }
 

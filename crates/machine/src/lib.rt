@@ -1,10 +1,7 @@
 // Reversible machines, and walks over any of them.
 mod addition;
-mod calls;
 mod headings;
 mod machines;
-mod performing;
-mod readings;
 mod reasons;
 mod strides;
 mod sums;
@@ -13,21 +10,15 @@ mod worked;
 
 pub use addition::Addition;
 pub use addition::AdditionMachine;
-pub use addition::AdditionReadable;
 pub use addition::Direction;
-pub use calls::Answer;
-pub use calls::Call;
-pub use calls::Grant;
 pub use machines::Machine;
-pub use readings::NoQuery;
-pub use readings::Readable;
-pub use readings::StrideReadable;
 pub use reasons::Reason;
 pub use reasons::ReasonDebug;
 pub use reasons::ReasonEq;
 pub use reasons::ReasonPartialEq;
 pub use strides::Stride;
 pub use strides::StrideMachine;
+pub use walks::Grant;
 pub use walks::Probe;
 pub use walks::Walk;
 pub use worked::out_and_back;

@@ -3,11 +3,13 @@ ghost use lib.IntN.{pos};
 ghost use Rattle.machine.specs.Steps.{Took};
 ghost use Rattle.machine.specs.Walks.{place, may, Granted, Goes, Asked, Brought};
 ghost use Rattle.machine.specs.declared.headings.Heading.the-variants.{Up, Down};
-use crate::calls::Grant;
 use crate::headings::Heading;
 use crate::machines::Machine;
 use crate::reasons::Reason;
 use crate::sums::Sum;
+
+// The steps granted, and the reason why not all that were wanted: absent exactly if all were.
+pub type Grant = (u32, Option<Reason>);
 
 // The most steps that forward and back take in one call.
 const MOST: u32 = 1_000_000;

@@ -6,7 +6,7 @@ ghost use Rattle.machine.specs.Worked.{Out-and-back};
 use crate::addition::Addition;
 use crate::addition::AdditionMachine;
 use crate::addition::Direction;
-use crate::calls::Grant;
+use crate::walks::Grant;
 use crate::walks::Walk;
 
 // Opens the addition machine out at 3/2, and wants ten steps forward and then ten back: three are granted and

@@ -6,7 +6,7 @@ use Rattle.machine.specs.declared.strides.Stride.{Stride}
 use Rattle.machine.specs.Strides.{Strided, strided, stride, stride-turned, counted}
 use Rattle.machine.specs.Walks.{Place, place, opening, Grant, Asked, Brought}
 use Rattle.machine.specs.Lawful.{stride-laws}
-use Rattle.machine.proofs.Whole.{home-again}
+use Rattle.runs.proofs.Whole.{home-again}
 use Rattle.ladder.specs.declared.Ladder.{Ladder}
 use Rattle.ladder.specs.Rungs.{Rung, rung, climb, other-way, Tried}
 use Rattle.ladder.specs.Lawful.{ladder-laws}

@@ -1,7 +1,4 @@
-use crate::reasons::Reason;
-
-// The steps granted, and the reason why not all that were wanted: absent exactly if all were.
-pub type Grant = (u32, Option<Reason>);
+use machine::Grant;
 
 // What a walk may be asked, with the queries Q that its machine can be read by.
 #[derive(Drop)]

@@ -6,14 +6,14 @@ use lib.IntN.{ℤ, pos, negℤ, _-ℤ_}
 use lib.ListN.{length}
 use Rattle.std.specs.declared.option.Option.{Option}
 use Rattle.std.specs.declared.option.Option.the-variants.{None, Some}
-use Rattle.machine.specs.declared.calls.Call.{Call}
-use Rattle.machine.specs.declared.calls.Call.the-variants as call
-use Rattle.machine.specs.declared.calls.Answer.{Answer}
-use Rattle.machine.specs.declared.calls.Answer.the-variants as answer
+use Rattle.runs.specs.declared.calls.Call.{Call}
+use Rattle.runs.specs.declared.calls.Call.the-variants as call
+use Rattle.runs.specs.declared.calls.Answer.{Answer}
+use Rattle.runs.specs.declared.calls.Answer.the-variants as answer
 use Rattle.machine.specs.declared.headings.Heading.{Heading}
 use Rattle.machine.specs.declared.headings.Heading.the-variants.{Up, Down}
 use Rattle.machine.specs.Steps.{Next, to, go}
 use Rattle.machine.specs.Walks.{Place, opening, Grant, Asked, Brought, towards}
 
 -- y stands d next states after x, or before it where d is negative
 pub record Stands {S : Type 0} (next : S → Next S) (x : S) (d : ℤ) (y : S) : Type 0 where

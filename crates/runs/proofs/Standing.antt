@@ -4,10 +4,11 @@ use Prim.Native.Nat.{ℕ, suc, _+_, _-_, _≤_}
 use native.Mathlib.Omega.{arith}
 use lib.IntN.{ℤ, pos, negsuc, negℤ, _+ℤ_, _-ℤ_}
 use Rattle.std.proofs.shelf.Signed.{ints}
 use Rattle.machine.specs.Steps.{Next, to, go, Laws}
-use Rattle.machine.specs.Runs.{Stands}
+use Rattle.runs.specs.Runs.{Stands}
 use Rattle.machine.specs.Lawful.{go-none, go-back}
 use Rattle.machine.proofs.Ways.{go-add, go-rest}
+use Rattle.machine.proofs.Going.{turned-once}
 
 module _ {S : Type 0} (next : S → Next S) where
   pub stands-here : (x : S) (d : ℤ) → d ≡ pos 0 → Stands next x d x
@@ -61,9 +62,6 @@ module _ {S : Type 0} {next : S → Next S} {turned : S → S} (laws : Laws next
   stands-plus (pos g) is s t = stands-on next g is s (t .ahead g refl)
   stands-plus (negsuc g) is s t = stands-back (suc g) (omega (arith, ints)) s (t .behind (suc g) refl)
 
-  pub turned-once : (x y : S) → turned x ≡ turned y → x ≡ y
-  turned-once x y e = sym (laws .twice x) ∙ ap turned e ∙ laws .twice y
-
   -- only one state stands so far off
   pub stands-once : (d : ℤ) (x y z : S) → Stands next x d y → Stands next x d z → y ≡ z
   stands-once (pos n) x y z s t =
@@ -73,4 +71,4 @@ module _ {S : Type 0} {next : S → Next S} {turned : S → S} (laws : Laws next
   stands-once (negsuc n) x y z s t =
       let a = go-back laws (suc n) y x (s .behind (suc n) refl) in
       let b = go-back laws (suc n) z x (t .behind (suc n) refl) in
-      turned-once y z (cc)
+      turned-once laws y z (cc)

@@ -1,9 +1,12 @@
 ghost use mathlib.Core.Path.{_≡_};
+ghost use Prim.Native.Nat.{ℕ};
 ghost use lib.IntN.{ℤ};
 ghost use Rattle.std.specs.Vec.{made};
-use crate::machines::Machine;
-use crate::strides::Stride;
-use crate::strides::StrideMachine;
+use machine::Addition;
+use machine::AdditionMachine;
+use machine::Machine;
+use machine::Stride;
+use machine::StrideMachine;
 use std::alloc::AllocError;
 use std::alloc::Global;
 
@@ -35,6 +38,33 @@ pub trait Readable: Machine {
     fn reply(&self, sum: i64, query: &Self::Query, room: Self::Room) -> Self::Reply
         requires { ⌜ fits (now query) room ⌝ }
         ensures { λ r. ⌜ ((m : Self) → Self·Machine .state m ≡ Self·Machine .state (now (self .entry)) → told r ≡ reading m sum (now (query .entry))) ⌝ };
+}
+
+// The one reading is the two numbers.
+pub impl Readable for Addition as AdditionReadable {
+    type Query = ();
+
+    type Room = ();
+
+    type Reply = (u32, u32);
+
+    ghost Told = { ℕ × ℕ };
+
+    ghost told = { λ r. r };
+
+    ghost reading = { λ m s q. (m .a, m .b) };
+
+    ghost fits = { λ q x. Unit {0} };
+
+    fn room(query: &(), heap: Global) -> Result<(), AllocError>
+        ensures { λ r. ⌜ made r (λ x. Unit {0}) ⌝ }
+    {
+        Ok(())
+    }
+
+    fn reply(&self, sum: i64, query: &(), room: ()) -> (u32, u32) {
+        (self.a, self.b)
+    }
 }
 
 // The query of a machine that is not read.

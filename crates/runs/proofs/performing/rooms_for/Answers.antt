@@ -1,7 +1,7 @@
 use native.Mathlib.Omega.{arith}
 use Rattle.std.specs.Of.Vec.{vec-items}
-use Rattle.machine.proofs.Listing.{rooms-more, rooms-all}
-use Rattle.machine.proofs.performing.rooms_for.Needs as need
+use Rattle.runs.proofs.Listing.{rooms-more, rooms-all}
+use Rattle.runs.proofs.performing.rooms_for.Needs as need
 
 pub loop-call-again : need.loop-call-again
 loop-call-again g c =

@@ -5,10 +5,10 @@ use Prim.Native.Nat.{ℕ}
 use lib.IntN.{ℤ}
 use Rattle.std.specs.declared.option.Option.{Option}
 use Rattle.std.specs.declared.option.Option.the-variants.{None, Some}
-use Rattle.machine.specs.declared.calls.Call.{Call}
-use Rattle.machine.specs.declared.calls.Call.the-variants as call
-use Rattle.machine.specs.declared.calls.Answer.{Answer}
-use Rattle.machine.specs.declared.calls.Answer.the-variants as answer
+use Rattle.runs.specs.declared.calls.Call.{Call}
+use Rattle.runs.specs.declared.calls.Call.the-variants as call
+use Rattle.runs.specs.declared.calls.Answer.{Answer}
+use Rattle.runs.specs.declared.calls.Answer.the-variants as answer
 
 -- t is read for the query q at the state y and the sum s:
 -- some machine stands at y, and each that does gives that reading, so it is a function of state and sum

@@ -5,14 +5,14 @@ use Prim.Native.Nat.{ℕ, suc}
 use native.Mathlib.Omega.{arith}
 use lib.IntN.{ℤ}
 use lib.ListN.{length}
-use Rattle.machine.specs.declared.calls.Call.{Call}
-use Rattle.machine.specs.declared.calls.Call.the-variants as call
-use Rattle.machine.specs.declared.calls.Answer.{Answer}
-use Rattle.machine.specs.declared.calls.Answer.the-variants as answer
+use Rattle.runs.specs.declared.calls.Call.{Call}
+use Rattle.runs.specs.declared.calls.Call.the-variants as call
+use Rattle.runs.specs.declared.calls.Answer.{Answer}
+use Rattle.runs.specs.declared.calls.Answer.the-variants as answer
 use Rattle.machine.specs.declared.headings.Heading.the-variants.{Up, Down}
 use Rattle.machine.specs.Steps.{Next}
 use Rattle.machine.specs.Walks.{Place, Grant, Asked, Brought, towards}
-use Rattle.machine.specs.Runs.{Did, goes-forward, goes-back, tells-sum, takes-probe, brings-back, keeps, brings-none, keeps-none, reads-of, latest-first}
+use Rattle.runs.specs.Runs.{Did, goes-forward, goes-back, tells-sum, takes-probe, brings-back, keeps, brings-none, keeps-none, reads-of, latest-first}
 
 -- the last of a stack is its latest
 latest-last : {P : Type 0} (sum : P → ℤ) (xs : List P) (x : P) → latest-first sum (xs ++ (x ∷ [])) ≡ sum x ∷ latest-first sum xs

@@ -8,11 +8,11 @@ use Rattle.std.specs.Vec.{listOf}
 use Rattle.std.specs.Of.Vec.{vec-items}
 use Rattle.std.specs.Of.IntoIter.{into-iter-items}
 use Rattle.std.proofs.shelf.Results.{err-from-errBy}
 use Rattle.machine.specs.declared.walks.Probe.{Probe}
-use Rattle.machine.specs.Readings.{meant}
-use Rattle.machine.proofs.Whole.{run-law}
-use Rattle.machine.proofs.Listing.{reads-once, rooms-next, ran-begun, ran-more, all-performed}
-use Rattle.machine.proofs.walks.Walk.perform.Needs as need
+use Rattle.runs.specs.Readings.{meant}
+use Rattle.runs.proofs.Whole.{run-law}
+use Rattle.runs.proofs.Listing.{reads-once, rooms-next, ran-begun, ran-more, all-performed}
+use Rattle.runs.proofs.performing.perform.Needs as need
 
 pub returns-in-Break-rooms : need.returns-in-Break-rooms
 returns-in-Break-rooms g c =
@@ -32,8 +32,8 @@ returns-in-Break-probes g c =
 pub unwrap-requires : need.unwrap-requires
 unwrap-requires g c κs = c .next .ensures .test ∙ lt-ltb 0 _ (omega (arith, c .loop-call .inv .4, c .loop-call-test .taken))
 
-pub answer-answer-requires : need.answer-answer-requires
-answer-answer-requires g c κs =
+pub perform-one-answer-requires : need.perform-one-answer-requires
+perform-one-answer-requires g c κs =
     let xs = into-iter-items (c .loop-call .rooms) in
     let ys = into-iter-items (c .next .last .self) in
     let first : xs ≡ c .unwrap .result ∷ ys = c .next .ensures .items ∙ ap (λ o. listOf o ++ ys) (c .unwrap .ensures) in
@@ -68,11 +68,11 @@ loop-call-again g c =
     let one : length (listOf (c .next .result)) ≡ 1 = ap (λ o. length (listOf o)) (c .unwrap .ensures) in (
       omega (arith, c .push-reserved .ensures .len, inv .0),
       omega (arith, c .push-reserved .ensures .capacity, inv .1),
-      omega (arith, c .answer-answer .ensures .space .0, inv .2),
-      omega (arith, c .answer-answer .ensures .space .1, inv .3),
+      omega (arith, c .perform-one-answer .ensures .space .0, inv .2),
+      omega (arith, c .perform-one-answer .ensures .space .1, inv .3),
       omega (arith, c .next .ensures .len, one, inv .4),
       rooms-next (g .M·Readable .fits) calls i (c .call-item .result) xs ys (c .unwrap .result) (c .loop-call-test .taken) (c .call-item .is) first (inv .5) .1,
-      λ o h r. ran-more (meant (g .M·Readable .told)) o h calls i (c .call-item .result) (vec-items answers) (vec-items (c .push-reserved .last .self)) (c .answer-answer .result) (c .loop-call-test .taken) (c .call-item .is) (omega (arith, answers .ok .0, inv .0)) (c .push-reserved .ensures .items) (inv .6 o h r) (c .answer-answer .ensures .did),
+      λ o h r. ran-more (meant (g .M·Readable .told)) o h calls i (c .call-item .result) (vec-items answers) (vec-items (c .push-reserved .last .self)) (c .perform-one-answer .result) (c .loop-call-test .taken) (c .call-item .is) (omega (arith, answers .ok .0, inv .0)) (c .push-reserved .ensures .items) (inv .6 o h r) (c .perform-one-answer .ensures .did),
     )
 
 pub returns : need.returns

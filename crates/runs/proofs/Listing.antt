@@ -7,12 +7,12 @@ use lib.IntN.{ℤ}
 use lib.ListN.{length, getD, take, drop}
 use Rattle.std.proofs.shelf.Lists.{take-more, drop-more, take-all, length-take-le, length-map}
 use Rattle.std.specs.declared.option.Option.{Option}
-use Rattle.machine.specs.declared.calls.Call.{Call}
-use Rattle.machine.specs.declared.calls.Answer.{Answer}
+use Rattle.runs.specs.declared.calls.Call.{Call}
+use Rattle.runs.specs.declared.calls.Answer.{Answer}
 use Rattle.machine.specs.Steps.{Next}
 use Rattle.machine.specs.Walks.{Place}
-use Rattle.machine.specs.Readings.{Reads, Ready, All-ready}
-use Rattle.machine.specs.Runs.{Did, called, ended, Ran, paired, Performed, latest-first}
+use Rattle.runs.specs.Readings.{Reads, Ready, All-ready}
+use Rattle.runs.specs.Runs.{Did, called, ended, Ran, paired, Performed, latest-first}
 
 -- at one state and sum a query has one reading
 pub reads-once : {M S Q R : Type 0} (state : M → S) (reading : M → ℤ → Q → R) (y : S) (s : ℤ) (q : Q) (t u : R) → Reads state reading y s q t → Reads state reading y s q u → t ≡ u

@@ -8,17 +8,18 @@ use lib.Signed.{_≤ℤ_, leZ-yes}
 use Rattle.std.proofs.shelf.Signed.{ints}
 use Rattle.std.specs.declared.option.Option.{Option}
 use Rattle.std.specs.declared.option.Option.the-variants.{None, Some}
-use Rattle.machine.specs.declared.calls.Call.{Call}
-use Rattle.machine.specs.declared.calls.Call.the-variants as call
-use Rattle.machine.specs.declared.calls.Answer.{Answer}
-use Rattle.machine.specs.declared.calls.Answer.the-variants as answer
+use Rattle.runs.specs.declared.calls.Call.{Call}
+use Rattle.runs.specs.declared.calls.Call.the-variants as call
+use Rattle.runs.specs.declared.calls.Answer.{Answer}
+use Rattle.runs.specs.declared.calls.Answer.the-variants as answer
 use Rattle.machine.specs.declared.headings.Heading.{Heading}
 use Rattle.machine.specs.declared.headings.Heading.the-variants.{Up, Down}
 use Rattle.machine.specs.Steps.{Next, to, go, Laws}
 use Rattle.machine.specs.Walks.{Place, place, opening, Grant, Asked, Brought, towards}
-use Rattle.machine.specs.Runs.{Stands, latest, Does, goes-forward, goes-back, tells-sum, takes-probe, brings-back, keeps, brings-none, keeps-none, reads-of, Run, begun, called, ended, RunLaw}
-use Rattle.machine.proofs.Standing.{stands-here, stands-swap, stands-plus, stands-once}
-use Rattle.machine.proofs.Going.{Within, Moves, stays, goes-moves, goes-once, asked-moves, asked-once, brought-there}
+use Rattle.runs.specs.Runs.{Stands, latest, Does, goes-forward, goes-back, tells-sum, takes-probe, brings-back, keeps, brings-none, keeps-none, reads-of, Run, begun, called, ended, RunLaw}
+use Rattle.runs.proofs.Standing.{stands-here, stands-swap, stands-plus, stands-once}
+use Rattle.machine.proofs.Going.{goes-once, asked-once}
+use Rattle.runs.proofs.Moving.{Within, Moves, stays, goes-moves, asked-moves, brought-there}
 
 module _ {S Q R : Type 0} {next : S → Next S} {turned : S → S} {reads : S → ℤ → Q → R → Type 0}
     (laws : Laws next turned) (once : (y : S) (s : ℤ) (q : Q) (t u : R) → reads y s q t → reads y s q u → t ≡ u) where

@@ -6,9 +6,9 @@ use lib.IntN.{ℤ}
 use lib.ListN.{length}
 use Rattle.std.specs.Of.Vec.{vec-items}
 use Rattle.std.proofs.shelf.Signed.{ints}
 use Rattle.machine.specs.declared.walks.Probe.{Probe}
-use Rattle.machine.proofs.Answering.{did-forward, did-back, did-sum, did-probe, did-bring, did-bring-none, did-keep, did-keep-none, did-read}
-use Rattle.machine.proofs.walks.Walk.answer.Needs as need
+use Rattle.runs.proofs.Answering.{did-forward, did-back, did-sum, did-probe, did-bring, did-bring-none, did-keep, did-keep-none, did-read}
+use Rattle.runs.proofs.performing.perform_one.Needs as need
 
 abbrev sum-of : Probe → ℤ
 sum-of p = p .sum .value
@@ -65,7 +65,7 @@ returns-in-Some-room g c =
     let is = c .sum-in-Some-room .ensures in
     record {
       did = did-read (c .in-Read .is) (record {
-        someone = c .args .self .now .machine;
+        someone = c .args .walk .now .machine;
         stands = refl;
         alike = λ m e.
             c .reply .ensures m (e ∙ ap (g .M·Machine .state) (sym (c .machine .ensures)))

@@ -1,0 +1,5 @@
+pub mod Standing
+pub mod Moving
+pub mod Whole
+pub mod Answering
+pub mod Listing
