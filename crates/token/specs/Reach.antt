@@ -21,6 +21,9 @@ pub data Reached (ns : List Node) (rs : Rooms) : State → Type 0 where
 abbrev pub Numbered : List Node → Type 0
 Numbered ns = length ns ≤ 1431655765
 
--- over sound nodes such a token never finds its ports unlinked
+-- over sound nodes a token opened in this memory never finds its ports unlinked
+abbrev pub StaysLinked : List Node → Rooms → Type 0
+StaysLinked ns rs = (s : State) → Numbered ns → Sound ns → Reached ns rs s → next s ≡ ends Unlinked → ⊥
+
 abbrev pub NeverUnlinked : Type 0
-NeverUnlinked = (ns : List Node) (rs : Rooms) (s : State) → Numbered ns → Sound ns → Reached ns rs s → next s ≡ ends Unlinked → ⊥
+NeverUnlinked = (ns : List Node) (rs : Rooms) → StaysLinked ns rs

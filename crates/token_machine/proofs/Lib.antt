@@ -1,3 +1,4 @@
 pub mod Deciding
 pub mod Stepping
 pub mod Empty
+pub mod Replies

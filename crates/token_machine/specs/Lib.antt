@@ -1,3 +1,4 @@
 pub mod Passages
 pub mod Passing
 pub mod Tokens
+pub mod Readings

@@ -2,8 +2,15 @@
 mod lines;
 mod numbers;
 mod passages;
+mod queries;
+mod readings;
 mod steps;
 mod tokens;
 
+pub use queries::Query;
+pub use queries::Reply;
+pub use readings::TokenReadable;
+pub use readings::number;
+pub use readings::show;
 pub use steps::TokenMachine;
 pub use tokens::Token;

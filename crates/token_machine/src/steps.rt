@@ -7,6 +7,8 @@ ghost use Rattle.machine.specs.Steps.{Took};
 ghost use Rattle.token.specs.Table.{Stacks};
 ghost use Rattle.token.specs.State.{State, turned, opened, entrance as entrance-of};
 ghost use Rattle.token.specs.Next.{next};
+ghost use Rattle.token.specs.Distance.{DistanceLaw};
+ghost use Rattle.token.specs.Reach.{StaysLinked};
 ghost use Rattle.token.proofs.Laws.{token-laws};
 ghost use Rattle.token_machine.specs.Passing.{topsOf, LowTops, Found, Roomy, RoomAsked, WayOut, Moved};
 ghost use Rattle.token_machine.specs.Tokens.{stateOf, stacksOf, roomsOf, capacities};
@@ -81,7 +83,9 @@ impl<'a> Token<'a> {
         datas: &'a mut [DataCell],
         shelves: &'a mut [IterCell],
     ) -> Token<'a>
-        ensures { λ r. ⌜ stateOf r ≡ opened (nodesOf (now (cells .entry))) (capacities (length (now (letters .entry))) (length (now (iters .entry))) (length (now (datas .entry))) (length (now (shelves .entry)))) first ⌝ }
+        ensures state { λ r. ⌜ stateOf r ≡ opened (nodesOf (now (cells .entry))) (capacities (length (now (letters .entry))) (length (now (iters .entry))) (length (now (datas .entry))) (length (now (shelves .entry)))) first ⌝ }
+        ensures distances { λ r. ⌜ DistanceLaw (nodesOf (now (cells .entry))) (roomsOf r) ⌝ }
+        ensures linked { λ r. ⌜ StaysLinked (nodesOf (now (cells .entry))) (roomsOf r) ⌝ }
     {
         let to = entrance(cells);
         let mut stack = Stack::new(datas, DATAS);
