@@ -20,6 +20,7 @@ use Rattle.syntax.specs.Names.{fault}
 use Rattle.syntax.specs.Reads.{reads}
 use Rattle.language.specs.declared.typing.Typing.{Typing}
 use Rattle.language.specs.declared.counts.Facts.{Facts}
+use Rattle.language.specs.declared.program.Program.{Program}
 use Rattle.language.specs.Infer.{Checked, good, bad, infer}
 use Rattle.language.specs.Judgements.{judgements, nobody, sum, share, highest}
 use Rattle.language.specs.Checks.{Lists}
@@ -71,3 +72,8 @@ pub record Given (subs : List Subterm) (cells : List TypeCell) (root : ℕ) : Ty
 abbrev pub Concludes : List Subterm → ℕ → Tree ℕ → List TypeCell → List Typing → Result Facts Refusal → Type 0
 Concludes subs root t cells typings (Ok f) = (numbered t (infer nobody t) ≡ Ok t) × Holds subs cells typings root f t
 Concludes subs root t cells typings (Err x) = numbered t (infer nobody t) ≡ Err x
+
+-- the answer to a text: a program that memory holds, or the refusal
+abbrev pub Answers : List ℕ → Result Program Refusal → Type 0
+Answers text (Ok p) = (t : Tree ℕ) × (accepts text ≡ Ok t) × Holds (p .subterms .now) (p .types .now) (p .typings .now) (p .root) (p .facts) t
+Answers text (Err x) = accepts text ≡ Err x

@@ -110,10 +110,10 @@ add-cell-requires-in-Pair t c κs = two-asks (c .args .subs .now) (c .args .i) (
 pub judge-requires-in-Pair : need.judge-requires-in-Pair
 judge-requires-in-Pair t c κs = 
     let q = two-asks (c .args .subs .now) (c .args .i) (c .subterm-at-place .result) (c .subterm-at-place .ensures) (c .args .self .now) (pair (c .subterm-at-place .result .place)) (λ A B. within (c .subterm-at-place .result .place) (A ⊗ B)) (λ _ _. refl) (λ e a b. pair-at e (c .subterm-at-place .result .place) a b) (λ _ _ _. refl) (c .in-Pair .first) (c .in-Pair .second) (pair-parts (c .args .subs .now) (c .args .i) (c .subterm-at-place .result) (c .subterm-at-place .ensures) (c .args .self .now) (c .in-Pair .first) (c .in-Pair .second) (c .in-Pair .is)) (c .check-in-Pair .last .self) (c .in-Continue-first .first) (c .in-Continue-first .ensures tt) (c .check-in-Pair-2 .last .self) (c .in-Continue-second .second) (c .in-Continue-second .ensures tt) (c .pre) in
-    record { typed = (q .left .0 ⊗ q .right .0, product-cell (cellsOf (c .check-in-Pair-2 .last .self)) (cellsOf (c .add-cell-in-Pair .last .self)) (c .add-cell-in-Pair .result) _ _ (q .left .0) (q .right .0) (c .add-cell-in-Pair .ensures .cells) (c .add-cell-in-Pair .ensures .place) (q .left .1) (q .right .1)); room = subst (λ ts. Prim.Native.Nat._<_ (length (vec-items ts)) 2048) (sym (c .add-cell-in-Pair .ensures .typings)) (q .typing) }
+    record { typed = (q .left .0 ⊗ q .right .0, product-cell (cellsOf (c .check-in-Pair-2 .last .self)) (cellsOf (c .add-cell-in-Pair .last .self)) (c .add-cell-in-Pair .result) (c .in-Continue-first .first) (c .in-Continue-second .second) (q .left .0) (q .right .0) (c .add-cell-in-Pair .ensures .cells) (c .add-cell-in-Pair .ensures .place) (q .left .1) (q .right .1)); room = subst (λ ts. Prim.Native.Nat._<_ (length (vec-items ts)) 2048) (sym (c .add-cell-in-Pair .ensures .typings)) (q .typing) }
 
 pub returns-in-Continue-second : need.returns-in-Continue-second
-returns-in-Continue-second t c = two-done (c .args .subs .now) (c .args .i) (c .subterm-at-place .result) (c .subterm-at-place .ensures) (c .args .self .now) (pair (c .subterm-at-place .result .place)) (λ A B. within (c .subterm-at-place .result .place) (A ⊗ B)) (λ _ _. refl) (λ e a b. pair-at e (c .subterm-at-place .result .place) a b) (λ _ _ _. refl) (c .in-Pair .first) (c .in-Pair .second) (pair-parts (c .args .subs .now) (c .args .i) (c .subterm-at-place .result) (c .subterm-at-place .ensures) (c .args .self .now) (c .in-Pair .first) (c .in-Pair .second) (c .in-Pair .is)) (c .check-in-Pair .last .self) (c .in-Continue-first .first) (c .in-Continue-first .ensures tt) (c .check-in-Pair-2 .last .self) (c .in-Continue-second .second) (c .in-Continue-second .ensures tt) (c .add-cell-in-Pair .last .self) (c .judge-in-Pair .last .self) (c .judge-in-Pair .result) (λ n js s. with-cell s (c .add-cell-in-Pair .last .self) _ (c .add-cell-in-Pair .ensures .cells) (c .add-cell-in-Pair .ensures .typings) (c .add-cell-in-Pair .ensures .context) (c .add-cell-in-Pair .ensures .number)) (λ A B d f. c .judge-in-Pair .ensures .agrees (A ⊗ B) (product-cell (cellsOf (c .check-in-Pair-2 .last .self)) (cellsOf (c .add-cell-in-Pair .last .self)) (c .add-cell-in-Pair .result) _ _ (A) (B) (c .add-cell-in-Pair .ensures .cells) (c .add-cell-in-Pair .ensures .place) d f)) (c .judge-in-Pair .ensures .noted)
+returns-in-Continue-second t c = two-done (c .args .subs .now) (c .args .i) (c .subterm-at-place .result) (c .subterm-at-place .ensures) (c .args .self .now) (pair (c .subterm-at-place .result .place)) (λ A B. within (c .subterm-at-place .result .place) (A ⊗ B)) (λ _ _. refl) (λ e a b. pair-at e (c .subterm-at-place .result .place) a b) (λ _ _ _. refl) (c .in-Pair .first) (c .in-Pair .second) (pair-parts (c .args .subs .now) (c .args .i) (c .subterm-at-place .result) (c .subterm-at-place .ensures) (c .args .self .now) (c .in-Pair .first) (c .in-Pair .second) (c .in-Pair .is)) (c .check-in-Pair .last .self) (c .in-Continue-first .first) (c .in-Continue-first .ensures tt) (c .check-in-Pair-2 .last .self) (c .in-Continue-second .second) (c .in-Continue-second .ensures tt) (c .add-cell-in-Pair .last .self) (c .judge-in-Pair .last .self) (c .judge-in-Pair .result) (λ n js s. with-cell s (c .add-cell-in-Pair .last .self) _ (c .add-cell-in-Pair .ensures .cells) (c .add-cell-in-Pair .ensures .typings) (c .add-cell-in-Pair .ensures .context) (c .add-cell-in-Pair .ensures .number)) (λ A B d f. c .judge-in-Pair .ensures .agrees (A ⊗ B) (product-cell (cellsOf (c .check-in-Pair-2 .last .self)) (cellsOf (c .add-cell-in-Pair .last .self)) (c .add-cell-in-Pair .result) (c .in-Continue-first .first) (c .in-Continue-second .second) A B (c .add-cell-in-Pair .ensures .cells) (c .add-cell-in-Pair .ensures .place) d f)) (c .judge-in-Pair .ensures .noted)
 
 pub check-requires-in-Let : need.check-requires-in-Let
 check-requires-in-Let t c κs = let q = let-ready (c .args .subs .now) (c .args .i) (c .subterm-at-place .result) (c .subterm-at-place .ensures) (c .args .self .now) (c .in-Let .first) (c .in-Let .second) (c .in-Let .pair) (c .in-Let .body) (c .in-Let .is) (c .pre) in (omega (arith, q .0), q .1)

@@ -1,7 +1,7 @@
 use mathlib.Core.Path.{_≡_, refl, sym, ap, _∙_}
 use Rattle.std.proofs.shelf.Results.{err-from-errBy}
 use Rattle.language.proofs.Whole.{Begun, whole-ready, whole-stop, whole-type, whole-countable, whole-other, whole-done}
-use Rattle.language.proofs.checker.Checker.program.Needs as need
+use Rattle.language.proofs.checker.Checker.conclude.Needs as need
 
 pub check-requires : need.check-requires
 check-requires c κs = whole-ready (c .args .subs .now) (c .args .cells .now) (c .args .root) (c .begin .last .self) (record { types = c .begin .ensures .cells; typings = c .begin .ensures .typings; context = c .begin .ensures .context; number = c .begin .ensures .number }) (c .pre)
