@@ -12,3 +12,4 @@ mod Names
 mod Naming
 mod Exact
 mod Known
+mod Dividing

@@ -8,3 +8,4 @@ pub mod Naming
 pub mod Answers
 pub mod Exactness
 pub mod Examples
+pub mod Dividing

@@ -1,9 +1,16 @@
 // The theorems above reading and checking: what is accepted is what the grammar spells and the linear typing rules derive.
 ghost use Rattle.grammar.specs.Reading.{ReadSpelled, SpelledRead, Unambiguous, RefusedRightly};
 ghost use Rattle.grammar.specs.Naming.{NamesRight, NamesLeast};
+ghost use Rattle.grammar.specs.Dividing.{DividedExactly};
 ghost use Rattle.grammar.specs.Exactness.{AcceptedExactly, AcceptedOne, RejectedRightly};
 ghost use Rattle.grammar.specs.Examples.{KnownAnswers};
 ghost use Rattle.grammar.specs.Typings.{InferredDerived, DerivedInferred, DerivedLinear, FirstFault, UniqueTypes, SumsDerived};
+
+// A text has one division into signs, and that is what is read.
+pub fn texts_divided_exactly()
+    ensures { λ _. ⌜ DividedExactly ⌝ }
+{
+}
 
 // Signs are read exactly as the grammar spells terms within the limits, and a refusal stands at the right sign.
 pub fn signs_read_exactly()
