@@ -1,24 +1,36 @@
 -- The distance law of walks, from the run law and the token's distances.
 use mathlib.Core.Path.{_≡_, refl, sym, ap, _∙_}
 use mathlib.Core.List.{List}
-use Prim.Native.Nat.{ℕ, zero, suc}
+use mathlib.Core.Logic.{_↔_}
+use Prim.Native.Nat.{ℕ, suc}
 use native.Mathlib.Omega.{arith}
 use lib.IntN.{ℤ, pos, negsuc}
-use Rattle.std.specs.declared.option.Option.the-variants.{Some}
+use Rattle.std.specs.declared.option.Option.{Option}
+use Rattle.std.specs.declared.option.Option.the-variants.{Some, None}
+use Rattle.std.specs.declared.result.Result.the-variants.{Ok}
 use Rattle.cells.specs.Ports.{Node}
 use Rattle.machine.specs.declared.reasons.Reason.the-variants.{Home}
 use Rattle.machine.specs.Steps.{Next, to, ends, then, go}
 use Rattle.machine.specs.Lawful.{go-first, go-back}
-use Rattle.machine.specs.Runs.{Stands}
-use Rattle.machine.proofs.Whole.{run-law}
+use Rattle.machine.specs.Walks.{Place}
+use Rattle.runs.specs.declared.calls.Call.the-variants as call
+use Rattle.runs.specs.declared.calls.Answer.{Answer}
+use Rattle.runs.specs.declared.calls.Answer.the-variants as answer
+use Rattle.runs.specs.Runs.{History, Stands, Does, reads-of}
+use Rattle.runs.proofs.Listing.{reads-once}
+use Rattle.runs.proofs.Whole.{run-law}
 use Rattle.token.specs.declared.memory.DataCell.{DataCell}
 use Rattle.token.specs.declared.memory.DataCell.the-variants.{Question}
 use Rattle.token.specs.State.{Rooms, State, opened, turned, numberOf}
 use Rattle.token.specs.Next.{next}
-use Rattle.token.specs.Distance.{ToNumber}
 use Rattle.token.proofs.Laws.{token-laws}
 use Rattle.token.proofs.Distances.{distances-agree}
-use Rattle.lab.specs.Distances.{Away, WalkDistances}
+use Rattle.token_machine.specs.declared.tokens.Token.{Token}
+use Rattle.token_machine.specs.declared.queries.Query.{Query}
+use Rattle.token_machine.specs.declared.queries.Query.the-variants as query
+use Rattle.token_machine.specs.Readings.{Reading, number, readingOf, orNone}
+use Rattle.token_machine.specs.Tokens.{stateOf}
+use Rattle.lab.specs.Distances.{TokenReads, Asked, Away, WalkDistances, DistancesOfWalks}
 
 module _ (ns : List Node) (rs : Rooms) where
   -- the opening, turned, is home
@@ -32,7 +44,8 @@ module _ (ns : List Node) (rs : Rooms) where
       let back = go-back token-laws (suc n) y (opened ns rs d) h in
       let first = go-first next n (turned (opened ns rs d)) in
       let stop : go next (suc n) (turned (opened ns rs d)) ≡ ends Home = first ∙ ap (λ o. then o (go next n)) (turned-ends d) in
-      let z : _≡_ {A = ℕ} 0 1 = cc in omega arith
+      let z : _≡_ {A = ℕ} 0 1 = cc in
+      omega arith
 
   abbrev start : State
   start = opened ns rs Question
@@ -48,10 +61,27 @@ module _ (ns : List Node) (rs : Rooms) where
       let same : y ≡ a .reached .last = cc in
       ap numberOf same ∙ a .reached .number
 
-pub walk-distances : {Q R : Type 0} {reads : State → ℤ → Q → R → Type 0} → ((y : State) (s : ℤ) (q : Q) (t u : R) → reads y s q t → reads y s q u → t ≡ u) → (ns : List Node) (rs : Rooms) → WalkDistances reads ns rs
-walk-distances {reads = reads} once ns rs = record {
-  tells = λ {p = p} run n.
-    let st = run-law token-laws once .stands (opened ns rs Question) run in
-    (away ns rs (p .sum) (p .state) n st, there ns rs (p .sum) (p .state) n st);
+  stands : {h : History Query Reading} {p : Place State} {ps : List ℤ} {f b : ℕ} → Asked ns rs h p ps f b → Stands next start (p .sum) (p .state)
+  stands run = run-law token-laws (reads-once stateOf (λ (m : Token) z q. readingOf (stateOf m) z q)) .stands start run
+
+  brings : {h : History Query Reading} {p : Place State} {ps : List ℤ} {f b : ℕ} → Asked ns rs h p ps f b → (n : ℕ) → (numberOf (p .state) ≡ Some n) ↔ Away ns rs n (p .sum)
+  brings {p = p} run n = (away (p .sum) (p .state) n (stands run), there (p .sum) (p .state) n (stands run))
+
+-- the call number tells the number of the state
+tells : {p q : Place State} {ps qs : List ℤ} {g c : ℕ} {a : Answer Reading} → Does next turned TokenReads p ps (call.Read query.Number) a q qs g c → a ≡ answer.Read (number (orNone (numberOf (p .state))))
+tells (reads-of {p = p} r) = ap answer.Read (r .alike (r .someone) (r .stands) ∙ ap (λ s. number (orNone (numberOf s))) (r .stands))
+
+some-told : (o : Option ℕ) (n : ℕ) → answer.Read (number (orNone o)) ≡ answer.Read (number (Ok n)) → o ≡ Some n
+some-told None n e = let z : _≡_ {A = ℕ} 0 1 = cc in absurd (omega arith)
+some-told (Some m) n e = let same : m ≡ n = cc in ap Some same
+
+pub distances-of-walks : DistancesOfWalks
+distances-of-walks ns rs = record {
+  brings = brings ns rs;
+  returns = λ {p = p} {a = a} run does n.
+    let told = tells does in
+    let known = brings ns rs run n in
+    (λ e. known .0 (some-told (numberOf (p .state)) n (sym told ∙ e)),
+     λ w. told ∙ ap (λ o. answer.Read (number (orNone o))) (known .1 w));
   distances = distances-agree ns rs;
 }

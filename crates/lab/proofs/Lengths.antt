@@ -29,7 +29,8 @@ use Rattle.token.specs.Next.{next, largest}
 use Rattle.token.proofs.Steps.{stepping}
 use Rattle.token.specs.Line.{letterText, iterText, dataText, line}
 use Rattle.writer.specs.Written.{joined, listed}
-use Rattle.lab.specs.Listings.{lines, listing, lineAt, endLine, endNumber, numberText, placed, longest}
+use Rattle.lab.specs.Ends.{endNumber, numberText}
+use Rattle.lab.specs.Listings.{lines, listing, lineAt, endLine, placed, longest}
 use Rattle.lab.specs.Bounds.{Every, LowData, LowIter, Modest, lineRoom, LinesFit}
 use Rattle.lab.proofs.Bounds.{Bounded, bounded-open, bounded-step}
 use Rattle.lab.proofs.Listings.{goes-on, stops-here, no-steps-left}

@@ -1,36 +1,28 @@
 -- The listing of a walk: the line of each state from where it stands, and then how it ended. Assumes nothing.
 use mathlib.Core.Path.{_≡_}
-use mathlib.Core.List.{List, [], _∷_, _++_}
+use mathlib.Core.List.{List, [], _∷_}
 use Prim.Native.Nat.{ℕ, zero, suc, _+_, _≤_, _<_}
-use lib.Chars.{codes}
-use lib.IntN.{ℤ, pos}
+use lib.IntN.{pos}
 use lib.ListN.{length, getD}
-use Rattle.std.specs.Written.{decimal, signed}
+use Rattle.std.specs.declared.result.Result.{Result}
+use Rattle.std.specs.declared.result.Result.the-variants.{Ok, Err}
 use Rattle.std.specs.declared.option.Option.{Option}
 use Rattle.std.specs.declared.option.Option.the-variants.{Some, None}
 use Rattle.machine.specs.declared.reasons.Reason.{Reason}
 use Rattle.machine.specs.declared.headings.Heading.the-variants.{Up}
-use Rattle.machine.specs.Reasons.{number-of}
 use Rattle.machine.specs.Steps.{Next, to, ends, go}
 use Rattle.machine.specs.Walks.{Place, opening, may}
 use Rattle.token.specs.State.{State, numberOf}
 use Rattle.token.specs.Next.{next}
 use Rattle.token.specs.Line.{line}
+use Rattle.writer.specs.Written.{Shown}
+use Rattle.lab.specs.declared.stages.Stage.{Stage}
+use Rattle.lab.specs.declared.stages.Stage.the-variants.{Lines, End, Over}
+use Rattle.lab.specs.Ends.{endText}
 
--- the number of the reason, and 0 where no further step was asked for
-abbrev pub endNumber : Option Reason → ℕ
-endNumber None = 0
-endNumber (Some w) = number-of w
-
--- the number that the token brings home, and - where it brings none
-abbrev pub numberText : Option ℕ → List ℕ
-numberText None = codes "-"
-numberText (Some n) = decimal n
-
--- how a walk ended that stands at p: why, at which sum, and with which number
+-- how a walk ended that stands at p
 abbrev pub endLine : Option Reason → Place State → List ℕ
-endLine why p =
-    codes "end=" ++ (decimal (endNumber why) ++ (codes " steps=" ++ (signed (p .sum) ++ (codes " number=" ++ (numberText (numberOf (p .state)) ++ codes "\n")))))
+endLine why p = endText (record { why = why; sum = p .sum; number = numberOf (p .state) })
 
 abbrev pub lineAt : Place State → List ℕ
 lineAt p = line (p .state) (p .sum)
@@ -44,6 +36,12 @@ byNext stop on (ends w) = stop w
 unfoldable pub lines : ℕ → Place State → List (List ℕ)
 lines zero p = lineAt p ∷ (endLine None p ∷ [])
 lines (suc left) p = lineAt p ∷ byNext (λ w. endLine (Some w) p ∷ []) (lines left) (may Up next p)
+
+-- the last of some lines
+abbrev pub lastOf : List (List ℕ) → List ℕ
+lastOf [] = []
+lastOf (l ∷ []) = l
+lastOf (l ∷ (m ∷ ms)) = lastOf (m ∷ ms)
 
 -- a listing goes on for at most 100,000 steps
 abbrev pub longest : ℕ
@@ -68,3 +66,16 @@ pub record Told (s : State) : Type 0 where
 
 abbrev pub ListingsTell : Type 0
 ListingsTell = (s : State) → Told s
+
+-- what is still to be listed of a walk at p
+abbrev pub restOf : Stage → Place State → List (List ℕ)
+restOf (Lines left) p = lines left p
+restOf (End why) p = endLine why p ∷ []
+restOf Over p = []
+
+-- of what was to be listed the first line stands in the buffer, and the rest is still to be listed;
+-- or there was none; or the line is longer than the buffer, and all is as it was
+abbrev pub Listed : (before after : List (List ℕ)) (old new : List ℕ) → Result (Option ℕ) Reason → Type 0
+Listed before after old new (Ok (Some n)) = (l : List ℕ) × (before ≡ l ∷ after) × Shown l old new (Ok n)
+Listed before after old new (Ok None) = (before ≡ []) × (after ≡ []) × (new ≡ old)
+Listed before after old new (Err w) = (l : List ℕ) × (more : List (List ℕ)) × (before ≡ l ∷ more) × (after ≡ before) × Shown l old new (Err w)

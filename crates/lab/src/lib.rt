@@ -1,2 +1,16 @@
-// The calls that a host makes: text to network to walk.
-ghost use mathlib.Core.Path.{_≡_};
+// The calls that a host makes: text to network to walk, lists of calls performed on a walk, and listings.
+mod ends;
+mod listing;
+mod performing;
+mod stages;
+mod texts;
+mod worked;
+
+pub use ends::End;
+pub use ends::EndText;
+pub use listing::Listing;
+pub use listing::show_outcome;
+pub use performing::perform;
+pub use stages::Stage;
+pub use texts::show_text;
+pub use worked::known_outcomes;
