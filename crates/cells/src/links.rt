@@ -1,6 +1,5 @@
 ghost use mathlib.Core.Path.{_≡_};
 ghost use Rattle.cells.specs.Ports.{kindOf, kindNumber, nodesOf, inside, end, linked, placeOf, ShowsNode};
-
 use crate::kinds::Cell;
 use crate::kinds::Kind;
 use crate::kinds::Port;

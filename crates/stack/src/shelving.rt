@@ -17,7 +17,8 @@ const SHELVES: usize = 64;
 
 const DEPTH: usize = 64;
 
-// 64 stacks of 64 cells each in one lent memory, counted from 1. A shelf that misses one of its cells is full while it holds nothing.
+// 64 stacks of 64 cells each in one lent memory, counted from 1: shelf j has cells 64(j - 1) to 64j - 1.
+// A shelf that misses one of its cells is full while it holds nothing, and so is one that is not among the 64.
 #[derive(Drop)]
 pub struct Shelves<'a, T> {
     cells: &'a mut [T],
@@ -65,7 +66,7 @@ impl<'a, T: Copy> Shelves<'a, T> {
         }
     }
 
-    // How many cells all the shelves hold.
+    // How many cells all the shelves hold: the sum of 64 heights.
     pub fn count(&self) -> usize
         ensures { λ r. ⌜ r ≡ cells-held (shelves (now (self .entry))) ⌝ }
     {

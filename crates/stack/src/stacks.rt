@@ -20,7 +20,7 @@ pub struct Stack<'a, T> {
 }
 
 impl<'a, T: Copy> Stack<'a, T> {
-    // An empty stack over the lent cells, of which it uses at most `limit`.
+    // An empty stack over the lent cells, of which it uses the first `limit` at most; the others are out of its reach.
     pub fn new(cells: &'a mut [T], limit: usize) -> Stack<'a, T>
         ensures empty { λ r. ⌜ held r ≡ [] ⌝ }
         ensures room { λ r. ⌜ room r ≡ min limit (length (now (cells .entry))) ⌝ }

@@ -93,13 +93,13 @@ module _ (ns : List Node) (rs : Rooms) where
       let few = both (leb (length (after w r .datas)) (w .rooms .datas)) _ (both (leb (length (after w r .iters)) (w .rooms .iters)) _ (both (leb (length (after w r .letters)) (w .rooms .letters)) _ within-two .1) .1) .0 in
       let one : length (after w r .datas) ≡ 1 = ap length (sym (ap (λ z. z .stacks .datas) same) ∙ h .datas) in
       let some : eqb (rs .datas) 0 ≡ false =
-          eqb-no (rs .datas) 0 (λ z.
-            let low = leb-most (length (after w r .datas)) (w .rooms .datas) few in
-            let same-room : w .rooms .datas ≡ rs .datas = ap (λ m. m .datas) (kept .rooms ∙ er) in
-            omega arith) in
+      eqb-no (rs .datas) 0 (λ z.
+      let low = leb-most (length (after w r .datas)) (w .rooms .datas) few in
+      let same-room : w .rooms .datas ≡ rs .datas = ap (λ m. m .datas) (kept .rooms ∙ er) in
+      omega arith) in
       let stacks : y .stacks ≡ onlyDatas (cond (eqb (rs .datas) 0) [] (b ∷ [])) =
-          (λ i. record { letters = h .letters i; iters = h .iters i; datas = h .datas i; shelves = all-empty 64 (y .stacks .shelves) (h .shelves) count i })
-          ∙ ap (λ t. onlyDatas (cond t [] (b ∷ []))) (sym some) in
+      (λ i. record { letters = h .letters i; iters = h .iters i; datas = h .datas i; shelves = all-empty 64 (y .stacks .shelves) (h .shelves) count i })
+      ∙ ap (λ t. onlyDatas (cond t [] (b ∷ []))) (sym some) in
       λ i. record { nodes = nodes i; from = h .port i; to = door i; stacks = stacks i; rooms = rooms i }
 
 -- the way from a to b, turned, is the way from b to a
@@ -115,24 +115,27 @@ room-open : (ns : List Node) (rs : Rooms) (b : DataCell) (y : State) → Home-wi
 room-open ns rs b y h e =
     whether (eqb (rs .datas) 0)
     (λ t.
-      let none : b ∷ [] ≡ [] = sym (h .datas) ∙ ap (λ z. z .stacks .datas) e ∙ ap (λ u. cond u [] (b ∷ [])) t in
-      absurd (let z : _≡_ {A = ℕ} 1 0 = ap length none in omega arith))
+    let none : b ∷ [] ≡ [] = sym (h .datas) ∙ ap (λ z. z .stacks .datas) e ∙ ap (λ u. cond u [] (b ∷ [])) t in
+    absurd (let z : _≡_ {A = ℕ} 1 0 = ap length none in omega arith))
     (λ f. f)
 
 pub way-back : (ns : List Node) (rs : Rooms) (a b : DataCell) (d : ℕ) (y : State) → go next d (opened ns rs a) ≡ to y → Home-with b y → (z : State) × (go next d (opened ns rs b) ≡ to z) × (brings z ≡ Some a)
 way-back ns rs a b zero y g h =
     let same : opened ns rs a ≡ y = cc (go-none next (opened ns rs a)) in
     let home : entrance ns ≡ 0 = ap (λ z. z .to) same ∙ h .port in
-    let (some, cell) = data-room ns rs a b (eqb (rs .datas) 0) (ap (λ z. only (z .stacks .datas)) same ∙ ap only (h .datas)) in
-    (opened ns rs b, go-none next (opened ns rs b),
-     ap (λ p. cond (eqb p 0 && true) (only (cond (eqb (rs .datas) 0) [] (b ∷ []))) None) home
-     ∙ ap (λ t. only (cond t [] (b ∷ []))) some ∙ ap Some (sym cell))
+    let (some, cell) = data-room ns rs a b (eqb (rs .datas) 0) (ap (λ z. only (z .stacks .datas)) same ∙ ap only (h .datas)) in (
+      opened ns rs b,
+      go-none next (opened ns rs b),
+      ap (λ p. cond (eqb p 0 && true) (only (cond (eqb (rs .datas) 0) [] (b ∷ []))) None) home
+          ∙ ap (λ t. only (cond t [] (b ∷ []))) some ∙ ap Some (sym cell),
+    )
 way-back ns rs a b (suc k) y g h =
     let (w, p, q) = go-split next k (opened ns rs a) y g in
-    let e = at-home ns rs b k (opened ns rs a) w y refl refl refl p q h in
-    (turned (opened ns rs a),
-     ap (go next (suc k)) (sym e) ∙ go-back token-laws (suc k) (opened ns rs a) y g,
-     turned-home ns rs a (room-open ns rs b y h e))
+    let e = at-home ns rs b k (opened ns rs a) w y refl refl refl p q h in (
+      turned (opened ns rs a),
+      ap (go next (suc k)) (sym e) ∙ go-back token-laws (suc k) (opened ns rs a) y g,
+      turned-home ns rs a (room-open ns rs b y h e),
+    )
 
 -- a token that is home goes nowhere, so a way comes home once
 home-ends : (s : State) → s .to ≡ 0 → next s ≡ ends Home
@@ -186,9 +189,9 @@ same-cell a b y z h k e =
 law : (ns : List Node) (rs : Rooms) → DistanceLaw ns rs
 law ns rs = record {
   there = λ n d w.
-    let (z, g, b) = way-back ns rs dat.Question (dat.Number n) d (w .last) (w .way) (with-number n (w .last) (w .number)) in
-    let (h, q) = question-home z b in
-    record { last = z; way = g; home = h; question = q };
+      let (z, g, b) = way-back ns rs dat.Question (dat.Number n) d (w .last) (w .way) (with-number n (w .last) (w .number)) in
+      let (h, q) = question-home z b in
+      record { last = z; way = g; home = h; question = q };
   back = back;
   one = unique;
   once = λ m n d e v w. unique m n d e (back m d v) (back n e w);

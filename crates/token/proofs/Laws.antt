@@ -69,12 +69,12 @@ module _ (s : State) (r : Row) (h : Stepping s r) where
     kind = at .kind;
     is = ap (λ n. nodeAt (s .nodes) n .kind) node-same ∙ at .is;
     found =
-      find-row (at .kind) (placeOf (met .to)) (valueTo met) (after s r) (reverse r) (reversed r (in-table .0))
-      (to-apply (at .kind) (placeOf (met .to)) (valueTo met) (after s r) (reverse r) (record {
-        kind = fitting .kind;
-        port = ap offset (sym (place-of (nodeTo s) (r .exit)));
-        top = ap (λ v. fits (guard (undo (r .change))) v (after s r)) value-same ∙ undone-here .again;
-      }));
+        find-row (at .kind) (placeOf (met .to)) (valueTo met) (after s r) (reverse r) (reversed r (in-table .0))
+        (to-apply (at .kind) (placeOf (met .to)) (valueTo met) (after s r) (reverse r) (record {
+          kind = fitting .kind;
+          port = ap offset (sym (place-of (nodeTo s) (r .exit)));
+          top = ap (λ v. fits (guard (undo (r .change))) v (after s r)) value-same ∙ undone-here .again;
+        }));
   }
 
   pub stepping-back : Stepping met (reverse r)
@@ -83,14 +83,14 @@ module _ (s : State) (r : Row) (h : Stepping s r) where
     came = to-link (s .nodes) _ _ (other-end (s .nodes) _ _ (is-linked (s .nodes) _ _ (h .goes)));
     row = to-row met (reverse r) row-back;
     room =
-      ap (λ v. within (s .rooms) v (after s r) && within (s .rooms) v (after met (reverse r))) value-same
-      ∙ ap (λ t. within (s .rooms) (valueTo s) (after s r) && within (s .rooms) (valueTo s) t) stacks-back
-      ∙ and-swap (within (s .rooms) (valueTo s) (s .stacks)) (within (s .rooms) (valueTo s) (after s r)) (h .room);
+        ap (λ v. within (s .rooms) v (after s r) && within (s .rooms) v (after met (reverse r))) value-same
+        ∙ ap (λ t. within (s .rooms) (valueTo s) (after s r) && within (s .rooms) (valueTo s) t) stacks-back
+        ∙ and-swap (within (s .rooms) (valueTo s) (s .stacks)) (within (s .rooms) (valueTo s) (after s r)) (h .room);
     fit = ap (λ t. small (after s r) && small t) stacks-back ∙ and-swap (small (s .stacks)) (small (after s r)) (h .fit);
     goes =
-      ap (λ e. linked (s .nodes) e (link (s .nodes) e)) exit-back
-      ∙ ap (linked (s .nodes) (s .to)) came-back
-      ∙ to-link (s .nodes) _ _ (other-end (s .nodes) _ _ (is-linked (s .nodes) _ _ (h .came)));
+        ap (λ e. linked (s .nodes) e (link (s .nodes) e)) exit-back
+        ∙ ap (linked (s .nodes) (s .to)) came-back
+        ∙ to-link (s .nodes) _ _ (other-end (s .nodes) _ _ (is-linked (s .nodes) _ _ (h .came)));
   }
 
   gone-back : gone met (exitTo met (reverse r)) (after met (reverse r)) ≡ turned s
@@ -106,6 +106,6 @@ pub token-laws : Laws next turned
 token-laws = record {
   twice = λ x. refl;
   back = λ x y e.
-    let (r, h, same) = stepping x y e in
-    ap (λ z. next (turned z)) same ∙ step-back x r h;
+      let (r, h, same) = stepping x y e in
+      ap (λ z. next (turned z)) same ∙ step-back x r h;
 }

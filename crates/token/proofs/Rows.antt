@@ -193,11 +193,11 @@ found k p v s r [] e = none-some r e
 found k p v s r (q ∷ qs) e =
     whether (applies k p v s q)
     (λ b.
-      let same : q ≡ r = cc (sym (ap (λ t. cond t (Some q) (firstRow k p v s qs)) b) ∙ e) in
-      (inl (sym same), sym (ap (applies k p v s) same) ∙ b))
+    let same : q ≡ r = cc (sym (ap (λ t. cond t (Some q) (firstRow k p v s qs)) b) ∙ e) in
+    (inl (sym same), sym (ap (applies k p v s) same) ∙ b))
     (λ b.
-      let (m, a) = found k p v s r qs (sym (ap (λ t. cond t (Some q) (firstRow k p v s qs)) b) ∙ e) in
-      (inr m, a))
+    let (m, a) = found k p v s r qs (sym (ap (λ t. cond t (Some q) (firstRow k p v s qs)) b) ∙ e) in
+    (inr m, a))
 
 pub find-row : (k : Kind) (p : Port) (v : ℕ) (s : Stacks) (r : Row) → Member r table → applies k p v s r ≡ true → firstRow k p v s table ≡ Some r
 find-row k p v s r = find k p v s r table table-apart
@@ -371,8 +371,8 @@ undo-shelve (suc k) ls (c ∷ cs) ds ss h =
     record {
       again = and-true _ _ (still-shelf k ss full ok) (ap (byTop false (λ _ _. true)) e);
       back =
-        ap (λ xs. byTop (stacks ls cs ds (set ss k full)) (λ x rest. stacks ls (x ∷ cs) ds (set (set ss k full) k rest)) xs) e
-        ∙ ap (stacks ls (c ∷ cs) ds) (set-set ss k full (getD ss k []) ∙ set-getD ss k []);
+          ap (λ xs. byTop (stacks ls cs ds (set ss k full)) (λ x rest. stacks ls (x ∷ cs) ds (set (set ss k full) k rest)) xs) e
+          ∙ ap (stacks ls (c ∷ cs) ds) (set-set ss k full (getD ss k []) ∙ set-getD ss k []);
     }
 
 unshelved : (k : ℕ) (ls : List Letter) (cs : List IterCell) (ds : List DataCell) (ss : List (List IterCell)) (xs : List IterCell) → getD ss k [] ≡ xs → Undoes unshelve (suc k) ls cs ds ss
@@ -386,9 +386,9 @@ unshelved k ls cs ds ss (x ∷ xs) e h =
     record {
       again = ap (fits iterCell (suc k)) after ∙ and-true _ _ (still-shelf k ss xs ok) refl;
       back =
-        ap (changed shelve (suc k)) after
-        ∙ ap (λ ys. stacks ls cs ds (set (set ss k xs) k (x ∷ ys))) low
-        ∙ ap (stacks ls cs ds) (set-set ss k xs (x ∷ xs) ∙ ap (set ss k) (sym e) ∙ set-getD ss k []);
+          ap (changed shelve (suc k)) after
+          ∙ ap (λ ys. stacks ls cs ds (set (set ss k xs) k (x ∷ ys))) low
+          ∙ ap (stacks ls cs ds) (set-set ss k xs (x ∷ xs) ∙ ap (set ss k) (sym e) ∙ set-getD ss k []);
     }
 
 undo-unshelve : (v : ℕ) (ls : List Letter) (cs : List IterCell) (ds : List DataCell) (ss : List (List IterCell)) → Undoes unshelve v ls cs ds ss

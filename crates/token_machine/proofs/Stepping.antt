@@ -154,8 +154,8 @@ no-row-at s o e h =
     ap (λ n. then n (leaves s)) (whether (eqb (nodeTo s) 0)
     (λ t. ap (λ b. cond b (ends reason.NoRow) (orNoRow (rowFor (nodeAt (s .nodes) (nodeTo s) .kind) (placeOf (s .to)) (valueTo s) (s .stacks)))) t)
     (λ f.
-      ap (λ b. cond b (ends reason.NoRow) (orNoRow (rowFor (nodeAt (s .nodes) (nodeTo s) .kind) (placeOf (s .to)) (valueTo s) (s .stacks)))) f
-      ∙ ap (λ k. orNoRow (rowFor k (placeOf (s .to)) (valueTo s) (s .stacks))) e ∙ ap orNoRow h))
+    ap (λ b. cond b (ends reason.NoRow) (orNoRow (rowFor (nodeAt (s .nodes) (nodeTo s) .kind) (placeOf (s .to)) (valueTo s) (s .stacks)))) f
+    ∙ ap (λ k. orNoRow (rowFor k (placeOf (s .to)) (valueTo s) (s .stacks))) e ∙ ap orNoRow h))
 
 pub no-kind : (s : State) → nodeAt (s .nodes) (nodeTo s) .kind ≡ None → then (rowAt s) (leaves s) ≡ ends reason.NoRow
 unfolding rowFor
@@ -232,9 +232,9 @@ module _ (s : State) (v : ℕ) (m : Passage) (p : Passes s v m) (w : Within (s .
   no-room n =
       at-row
       ∙ ap (λ t. asked t reason.Full (asked (small (s .stacks) && small (after s (p .row))) reason.Overflow (asked (linked (s .nodes) (exitTo s (p .row)) (link (s .nodes) (exitTo s (p .row)))) reason.Unlinked (to (gone s (exitTo s (p .row)) (after s (p .row)))))))
-        (ap (λ t. t && within (s .rooms) (valueTo s) (after s (p .row))) within-before
-        ∙ after-is
-        ∙ whether (within (s .rooms) v (passed v m (s .stacks))) (λ t. absurd (n (within-roomy (s .rooms) v m (s .stacks) (p .shelf) w (is-within (s .rooms) v (passed v m (s .stacks)) t)))) (λ f. f))
+      (ap (λ t. t && within (s .rooms) (valueTo s) (after s (p .row))) within-before
+      ∙ after-is
+      ∙ whether (within (s .rooms) v (passed v m (s .stacks))) (λ t. absurd (n (within-roomy (s .rooms) v m (s .stacks) (p .shelf) w (is-within (s .rooms) v (passed v m (s .stacks)) t)))) (λ f. f))
 
   to-exit : Roomy (s .rooms) (s .stacks) v m → then (rowAt s) (leaves s) ≡ asked (linked (s .nodes) (exitTo s (p .row)) (link (s .nodes) (exitTo s (p .row)))) reason.Unlinked (to (gone s (exitTo s (p .row)) (after s (p .row))))
   to-exit r =

@@ -33,7 +33,10 @@ impl Token<'_> {
     pub fn show(&self, sum: i64, buf: &mut [u8]) -> Result<usize, Reason>
         ensures { λ r. ⌜ Shown (line (stateOf (now (self .entry))) sum) (now (buf .entry)) (now (buf .exit)) r ⌝ }
     {
-        let mut measure = Writer { buf: &mut [], at: 0 };
+        let mut measure = Writer {
+            buf: &mut [],
+            at: 0,
+        };
         self.write_line(sum, &mut measure);
         if measure.at > buf.len() {
             return Err(Reason::ShortBuffer);

@@ -94,7 +94,11 @@ fn at_number(value: u32, port: Port, top: Option<DataCell>) -> Result<Passage, R
     }
 }
 
-fn at_successor(port: Port, top: Option<DataCell>, under: Option<DataCell>) -> Result<Passage, Reason>
+fn at_successor(
+    port: Port,
+    top: Option<DataCell>,
+    under: Option<DataCell>,
+) -> Result<Passage, Reason>
     ensures { λ r. ⌜ r ≡ atSuccessor port top under ⌝ }
 {
     match (port, top, under) {
@@ -102,7 +106,10 @@ fn at_successor(port: Port, top: Option<DataCell>, under: Option<DataCell>) -> R
             Ok(on_datas(Edit::Push(DataCell::Question), Port::First))
         }
         (Port::Second, Some(DataCell::Number(a)), _) if a > 0 => {
-            Ok(on_datas(Edit::Split(DataCell::Question, DataCell::Number(a - 1)), Port::First))
+            Ok(on_datas(
+                Edit::Split(DataCell::Question, DataCell::Number(a - 1)),
+                Port::First,
+            ))
         }
         (Port::First, Some(DataCell::Question), Some(DataCell::Question)) => {
             Ok(on_datas(Edit::Pop, Port::Second))
@@ -195,7 +202,12 @@ fn at_counter(side: Side, port: Port, top: Option<IterCell>) -> Result<Passage, 
     }
 }
 
-fn at_transfer(value: u32, port: Port, top: Option<IterCell>, shelved: Option<IterCell>) -> Result<Passage, Reason>
+fn at_transfer(
+    value: u32,
+    port: Port,
+    top: Option<IterCell>,
+    shelved: Option<IterCell>,
+) -> Result<Passage, Reason>
     ensures { λ r. ⌜ r ≡ atTransfer value port top shelved ⌝ }
 {
     if value == 0 || value > SHELVES {
@@ -220,7 +232,12 @@ fn at_transfer(value: u32, port: Port, top: Option<IterCell>, shelved: Option<It
     }
 }
 
-pub(crate) fn pass_through(kind: Kind, value: u32, port: Port, tops: Tops) -> Result<Passage, Reason>
+pub(crate) fn pass_through(
+    kind: Kind,
+    value: u32,
+    port: Port,
+    tops: Tops,
+) -> Result<Passage, Reason>
     ensures { λ r. ⌜ r ≡ through kind value port tops ⌝ }
 {
     match kind {

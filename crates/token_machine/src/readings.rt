@@ -10,15 +10,17 @@ use crate::queries::Query;
 use crate::queries::Reply;
 use crate::steps::TokenMachine;
 use crate::tokens::Token;
-use machine::Readable;
 use machine::Reason;
 use machine::Walk;
+use runs::Readable;
 use std::alloc::AllocError;
 use std::alloc::Global;
 
 pub impl<'a> Readable for Token<'a> as TokenReadable {
     type Query = Query;
+
     type Room = Vec<u8>;
+
     type Reply = Reply;
 
     ghost Told = { Reading };

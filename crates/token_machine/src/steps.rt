@@ -187,9 +187,5 @@ fn entrance(cells: &[Cell]) -> u32
     let Some(link) = link_of(cells, 0) else {
         return 0;
     };
-    if is_inside(cells, link) {
-        link
-    } else {
-        0
-    }
+    if is_inside(cells, link) { link } else { 0 }
 }

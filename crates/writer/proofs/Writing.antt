@@ -42,9 +42,9 @@ puts-more {old} {mid} {new} {at} {m} {n} a b x y =
       size = y .size ∙ x .size;
       end = λ h. let e = x .end h in let f = y .end (omega (arith, e)) in omega (arith, e, f);
       bytes = λ h k.
-        let first : m ≡ at + length a = omega (arith, x .end (omega arith)) in
-        let was : mid ≡ laid old at a = x .bytes (omega arith) (omega arith) in
-        y .bytes (omega arith) (omega (arith, x .size)) ∙ (λ i. laid (was i) (first i) b) ∙ laid-more old at a b (omega arith);
+          let first : m ≡ at + length a = omega (arith, x .end (omega arith)) in
+          let was : mid ≡ laid old at a = x .bytes (omega arith) (omega arith) in
+          y .bytes (omega arith) (omega (arith, x .size)) ∙ (λ i. laid (was i) (first i) b) ∙ laid-more old at a b (omega arith);
     }
 
 pub wrote-more : {s t u : Writer} (a b : List ℕ) → Wrote s a t → Wrote t b u → Wrote s (a ++ b) u

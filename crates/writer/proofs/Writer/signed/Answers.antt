@@ -12,6 +12,6 @@ returns c =
     let back : toZ w64 (ofZ w64 z) ≡ z = search needs in
     let abs = c .unsigned-abs .ensures .value in
     elim (c .if-n-lt0 .came) [
-      then-n-lt0 w ↦ wrote-is (signed-neg z (toZ w64 (ofZ w64 z)) _ back (w .if-n-lt0 .taken) abs) (wrote-more _ _ (wrote-to (w .self-is) (w .put .ensures)) (c .number .ensures))
-    | else-n-lt0 w ↦ wrote-is (signed-pos z (toZ w64 (ofZ w64 z)) _ back (w .if-n-lt0 .left) abs) (wrote-from (w .self-is) (c .number .ensures))
+      | then-n-lt0 w ↦ wrote-is (signed-neg z (toZ w64 (ofZ w64 z)) _ back (w .if-n-lt0 .taken) abs) (wrote-more _ _ (wrote-to (w .self-is) (w .put .ensures)) (c .number .ensures))
+      | else-n-lt0 w ↦ wrote-is (signed-pos z (toZ w64 (ofZ w64 z)) _ back (w .if-n-lt0 .left) abs) (wrote-from (w .self-is) (c .number .ensures))
     ]

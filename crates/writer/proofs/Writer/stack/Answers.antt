@@ -13,13 +13,15 @@ loop-i-holds g c = (omega arith, begun _ (c .args .cells .now) _)
 pub loop-i-again : need.loop-i-again
 loop-i-again g c =
     let l = c .loop-i in
-    let xs = c .args .cells .now in
-    (omega arith, cell-put (g .C·Text .text) xs (l .i) (c .index-cells-i .result) (omega arith) (omega arith) (c .index-cells-i .is)
-      (elim (c .if-i-cells .came) [
-        then-i-cells w ↦ wrote-to (w .self-is) (comma-put _ xs (l .i) (omega arith) (l .inv .1) (w .put-then-i-cells .ensures))
-      | else-i-cells w ↦ wrote-to (w .self-is) (comma-left _ xs (l .i) (omega arith) (l .inv .1))
-      ])
-      (c .write .ensures))
+    let xs = c .args .cells .now in (
+      omega arith,
+      cell-put (g .C·Text .text) xs (l .i) (c .index-cells-i .result) (omega arith) (omega arith) (c .index-cells-i .is)
+          (elim (c .if-i-cells .came) [
+            | then-i-cells w ↦ wrote-to (w .self-is) (comma-put _ xs (l .i) (omega arith) (l .inv .1) (w .put-then-i-cells .ensures))
+            | else-i-cells w ↦ wrote-to (w .self-is) (comma-left _ xs (l .i) (omega arith) (l .inv .1))
+          ])
+          (c .write .ensures),
+    )
 
 pub returns-then-is-empty : need.returns-then-is-empty
 returns-then-is-empty g c =

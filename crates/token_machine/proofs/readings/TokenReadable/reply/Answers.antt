@@ -26,8 +26,8 @@ returns-in-Show c =
     let back : y ≡ z = search needs in
     let read = shown-is (line s y) n (c .as-mut-slice .result .now) new r (c .as-mut-slice .ensures .value ∙ zeros) (c .show-shown .ensures) in
     λ m e.
-      ap (shown r) (whole (v .len) new (v .items) long)
-      ∙ read
-      ∙ ap (λ x. shownIn (line s x) n) back
-      ∙ ap (readingOf s z) (sym (c .in-Show .is))
-      ∙ ap (λ x. readingOf x z (c .args .query .now)) (sym e)
+    ap (shown r) (whole (v .len) new (v .items) long)
+    ∙ read
+    ∙ ap (λ x. shownIn (line s x) n) back
+    ∙ ap (readingOf s z) (sym (c .in-Show .is))
+    ∙ ap (λ x. readingOf x z (c .args .query .now)) (sym e)

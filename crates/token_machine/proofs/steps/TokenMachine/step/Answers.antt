@@ -30,9 +30,10 @@ returns-in-Break-ask-room c =
     let e = c .in-Break-ask-room .ensures tt in
     rw (p .1, p .2) (
       goes-on s (c .if-self-eq0 .left) (sym (c .if-not-are-linked .ensures tt))
-      ∙ no-room s v (c .in-Continue-value .passage) (c .in-Continue-value .ensures tt) (token-within t v) (e .1)
-      ∙ ap ends (sym (e .0)),
-      refl)
+          ∙ no-room s v (c .in-Continue-value .passage) (c .in-Continue-value .ensures tt) (token-within t v) (e .1)
+          ∙ ap ends (sym (e .0)),
+      refl,
+    )
 
 pub find-exit-requires : need.find-exit-requires
 find-exit-requires c κs =
@@ -50,9 +51,10 @@ returns-in-Break-exit c =
     let e = c .in-Break-exit .ensures tt in
     rw (p .1, p .2) (
       goes-on s (c .if-self-eq0 .left) (sym (c .if-not-are-linked .ensures tt))
-      ∙ no-exit s v (c .in-Continue-value .passage) (c .in-Continue-value .ensures tt) (token-within t v) (c .in-Continue-ask-room .ensures tt) (e .1)
-      ∙ ap ends (sym (e .0)),
-      refl)
+          ∙ no-exit s v (c .in-Continue-value .passage) (c .in-Continue-value .ensures tt) (token-within t v) (c .in-Continue-ask-room .ensures tt) (e .1)
+          ∙ ap ends (sym (e .0)),
+      refl,
+    )
 
 pub returns : need.returns
 returns c =

@@ -34,9 +34,9 @@ returns-in-Break-passage c =
       value = sym (ap (λ n. n .value) (c .in-Some .ensures tt));
     } in
     let e : through k v (placeOf (t .to)) (topsOf v (stacksOf t)) ≡ Err w =
-        ap (λ o. through k v o (topsOf v (stacksOf t))) (sym (c .of-2 .ensures))
-        ∙ ap (through k v (c .of-2 .result)) (sym (c .tops .ensures .value))
-        ∙ sym (c .pass-through .ensures) ∙ c .in-Break-passage .was tt in
+    ap (λ o. through k v o (topsOf v (stacksOf t))) (sym (c .of-2 .ensures))
+    ∙ ap (through k v (c .of-2 .result)) (sym (c .tops .ensures .value))
+    ∙ sym (c .pass-through .ensures) ∙ c .in-Break-passage .was tt in
     let d = subst (Decided k (placeOf (t .to)) v (stacksOf t)) e (decided k (placeOf (t .to)) v (stacksOf t) (shelves-length (t .shelves))) in
     rw (p .1, p .2) (ended s k v w a (token-within t v) d)
 
@@ -53,9 +53,9 @@ returns c =
       value = sym (ap (λ n. n .value) (c .in-Some .ensures tt));
     } in
     let e : through k v (placeOf (t .to)) (topsOf v (stacksOf t)) ≡ Ok m =
-        ap (λ o. through k v o (topsOf v (stacksOf t))) (sym (c .of-2 .ensures))
-        ∙ ap (through k v (c .of-2 .result)) (sym (c .tops .ensures .value))
-        ∙ sym (c .pass-through .ensures) ∙ c .in-Continue-passage .was tt in
+    ap (λ o. through k v o (topsOf v (stacksOf t))) (sym (c .of-2 .ensures))
+    ∙ ap (through k v (c .of-2 .result)) (sym (c .tops .ensures .value))
+    ∙ sym (c .pass-through .ensures) ∙ c .in-Continue-passage .was tt in
     let d = subst (Decided k (placeOf (t .to)) v (stacksOf t)) e (decided k (placeOf (t .to)) v (stacksOf t) (shelves-length (t .shelves))) in
     let most : v ≤ largest = search needs in
     passes s k v m a (subst LowTops (c .tops .ensures .value) (c .tops .ensures .low)) most d
