@@ -44,6 +44,14 @@ skipped-starts (c ∷ s) u b e = go (blank c) refl (skipped-starts s u b)
     go true h ih = ih (rw h at e)
     go false h ih = let g : c ∷ s ≡ b ∷ u = rw h at e in let k : c ≡ b = cc in subst (λ (x : ℕ). blank x ≡ false) k h
 
+pub skipped-twice : (s : List ℕ) → skipped (skipped s) ≡ skipped s
+skipped-twice [] = refl
+skipped-twice (b ∷ s) = go (blank b) refl (skipped-twice s)
+  where
+    go : (v : Bool) → blank b ≡ v → skipped (skipped s) ≡ skipped s → skipped (cond (blank b) (skipped s) (b ∷ s)) ≡ cond (blank b) (skipped s) (b ∷ s)
+    go true e ih = rw e ih
+    go false e ih = simp e
+
 -- a mark is a sign
 lex-mark : (end b : ℕ) (s : List ℕ) → blank b ≡ false → letter b ≡ false → digit b ≡ false → lex end (b ∷ s) ≡ (end - length (b ∷ s), mark b) ∷ lex end s
 unfolding lex

@@ -18,6 +18,16 @@ use Rattle.syntax.specs.Names.{among, fault, sooner, binderOf}
 use Rattle.syntax.specs.Scopes.{InForce, found, unused, nobody}
 use Rattle.syntax.specs.Held.{bindersOf}
 
+pub drop-map : {X Y : Type 0} (f : X → Y) (n : ℕ) (xs : List X) → drop n (map f xs) ≡ map f (drop n xs)
+drop-map f zero xs = refl
+drop-map f (suc n) [] = refl
+drop-map f (suc n) (x ∷ xs) = drop-map f n xs
+
+pub take-map : {X Y : Type 0} (f : X → Y) (n : ℕ) (xs : List X) → take n (map f xs) ≡ map f (take n xs)
+take-map f zero xs = refl
+take-map f (suc n) [] = refl
+take-map {Y = Y} f (suc n) (x ∷ xs) = ap (λ (r : List Y). f x ∷ r) (take-map f n xs)
+
 pub same-is : (w x : List ℕ) (r : Bool) → Decides r (x ≡ w) → r ≡ sameBytes w x
 same-is w x r d = same-from-decides r (sameBytes w x) ((λ t. sym (d .0 t), λ e. d .1 (sym e))) (sameBytes-decides w x)
 

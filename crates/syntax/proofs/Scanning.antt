@@ -12,7 +12,7 @@ use Rattle.std.specs.Orderings.{Decides}
 use Rattle.std.specs.shelf.Text.{sameBytes}
 use Rattle.std.proofs.shelf.Equals.{sameBytes-decides}
 use Rattle.std.proofs.shelf.Lists.{take-more}
-use Rattle.std.proofs.shelf.Tests.{eq-eqb, ne-eqb, le-leb, lt-leb}
+use Rattle.std.proofs.shelf.Tests.{eq-eqb, ne-eqb, le-leb, lt-leb, and-parts, leb-true}
 use Rattle.std.proofs.shelf.Ways.{tells}
 use Rattle.syntax.specs.declared.refusal.Fault.{Fault}
 use Rattle.syntax.specs.declared.refusal.Fault.the-variants.{WrongSign, LargeNumber}
@@ -148,3 +148,6 @@ pub leading-zero : (ds : List ℕ) → 2 ≤ length ds → getD ds 0 0 ≡ 48 �
 leading-zero [] h e = absurd (omega arith)
 leading-zero (d ∷ []) h e = absurd (omega arith)
 leading-zero (d ∷ x ∷ ds) h e = let n = eq-eqb d 48 e in rw n
+
+pub name-short : (w : List ℕ) → isName w ≡ true → length w ≤ 16
+name-short w e = let p = and-parts (leb (length w) 16) (not (isLet w) && (not (isIn w) && not (isIter w))) e in leb-true (length w) 16 (p .0)

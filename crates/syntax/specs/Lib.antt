@@ -4,8 +4,9 @@ pub mod Signs
 pub mod Grammar
 pub mod Parse
 pub mod Names
-pub mod Reads
 pub mod Layout
 pub mod Scopes
-pub mod Steps
 pub mod Held
+pub mod Steps
+pub mod Reads
+pub mod Answer

@@ -41,9 +41,16 @@ abbrev pub unused : List InForce → Option Refusal → Option Refusal
 unused [] f = f
 unused (x ∷ xs) f = unused xs (cond (x .used) f (sooner (fault Unused (x .binder .place)) f))
 
+-- all but the first h names are asked whether they were used
+abbrev pub settle : ℕ → Names → Names
+settle h s = record { bound = s .bound; force = s .force; least = unused (drop h (s .force)) (s .least) }
+
 -- all but the first h names go out of force
+abbrev pub shut : ℕ → Names → Names
+shut h s = record { bound = s .bound; force = take h (s .force); least = s .least }
+
 abbrev pub leave : ℕ → Names → Names
-leave h s = record { bound = s .bound; force = take h (s .force); least = unused (drop h (s .force)) (s .least) }
+leave h s = shut h (settle h s)
 
 -- the number of the innermost name w in force
 abbrev pub found : Name → List InForce → Option ℕ

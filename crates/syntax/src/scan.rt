@@ -7,9 +7,10 @@ ghost use lib.Dec.{leb};
 ghost use lib.ListN.{length, getD, take, drop};
 ghost use Rattle.std.specs.Orderings.{Decides};
 ghost use Rattle.syntax.specs.Signs.{lex, blank, letter, digit, within, isName};
-ghost use Rattle.syntax.specs.Parse.{expect as expected, isMark, isWordIn, binder as bindings};
-ghost use Rattle.syntax.specs.Steps.{skipped, run as front, Gives, Passes, Counted, binderAt};
+ghost use Rattle.syntax.specs.Parse.{expect as expected, isMark, isWordIn, binder as bindings, letHead as heads};
+ghost use Rattle.syntax.specs.Steps.{skipped, run as front, Gives, Passes, Counted, IsBinder, AreBinders, Opens};
 use crate::names::Binder;
+use crate::names::First;
 use crate::refusal::Fault;
 use crate::refusal::Refusal;
 
@@ -114,7 +115,7 @@ pub fn number(run: &[u8]) -> Result<u32, Fault>
 
 // Reads a name where it is bound.
 pub fn binder<'a>(text: &'a [u8], end: usize) -> Result<(Binder<'a>, &'a [u8]), Refusal>
-    ensures { λ r. ⌜ Gives end (λ x y. x ≡ binderAt y) (bindings end (lex end (now (text .entry)))) r ⌝ }
+    ensures { λ r. ⌜ Gives end IsBinder (bindings end (lex end (now (text .entry)))) r ⌝ }
 {
     let rest = skip(text);
     let (name, after) = run(rest, b'a', b'z');
@@ -122,4 +123,64 @@ pub fn binder<'a>(text: &'a [u8], end: usize) -> Result<(Binder<'a>, &'a [u8]), 
         return Err(wrong_sign(end, rest));
     }
     Ok((Binder { place: place_of(end, rest), name }, after))
+}
+
+// Reads `<x,y> =` after the word `let`.
+pub fn let_head<'a>(text: &'a [u8], end: usize) -> Result<((Binder<'a>, Binder<'a>), &'a [u8]), Refusal>
+    ensures { λ r. ⌜ Gives end AreBinders (heads end (lex end (now (text .entry)))) r ⌝ }
+{
+    let rest = expect(text, end, b'<')?;
+    let (first, rest) = binder(rest, end)?;
+    let rest = expect(rest, end, b',')?;
+    let (second, rest) = binder(rest, end)?;
+    let rest = expect(rest, end, b'>')?;
+    let rest = expect(rest, end, b'=')?;
+    Ok(((first, second), rest))
+}
+
+// Which term begins with the word that stands at the front.
+fn first_word<'a>(text: &'a [u8], end: usize) -> Result<(First<'a>, &'a [u8]), Refusal>
+    requires starts { ⌜ 1 ≤ length (now text) ⌝ }
+    requires letter { ⌜ letter (getD (now text) 0 0) ≡ true ⌝ }
+    ensures { λ r. ⌜ Opens end (now (text .entry)) r ⌝ }
+{
+    let (word, rest) = run(text, b'a', b'z');
+    match word {
+        b"let" => Ok((First::Let, rest)),
+        b"iter" => Ok((First::Iterator, rest)),
+        _ => {
+            if !is_name(word) {
+                return Err(wrong_sign(end, text));
+            }
+            Ok((First::Name(word), rest))
+        }
+    }
+}
+
+fn first_number<'a>(text: &'a [u8], end: usize) -> Result<(First<'a>, &'a [u8]), Refusal>
+    requires starts { ⌜ 1 ≤ length (now text) ⌝ }
+    requires digit { ⌜ digit (getD (now text) 0 0) ≡ true ⌝ }
+    ensures { λ r. ⌜ Opens end (now (text .entry)) r ⌝ }
+{
+    let (run, rest) = run(text, b'0', b'9');
+    match number(run) {
+        Ok(n) => Ok((First::Number(n), rest)),
+        Err(fault) => Err(Refusal { fault, place: place_of(end, text) }),
+    }
+}
+
+// Which term begins at the front of a text that begins with a sign, if one can.
+pub fn first<'a>(text: &'a [u8], end: usize) -> Result<(First<'a>, &'a [u8]), Refusal>
+    requires { ⌜ now text ≡ skipped (now text) ⌝ }
+    ensures { λ r. ⌜ Opens end (now (text .entry)) r ⌝ }
+{
+    match text {
+        [b'S', rest @ ..] => Ok((First::Successor, rest)),
+        [b'\\', rest @ ..] => Ok((First::Function, rest)),
+        [b'(', rest @ ..] => Ok((First::Application, rest)),
+        [b'<', rest @ ..] => Ok((First::Pair, rest)),
+        [b'a'..=b'z', ..] => first_word(text, end),
+        [b'0'..=b'9', ..] => first_number(text, end),
+        _ => Err(wrong_sign(end, text)),
+    }
 }

@@ -7,7 +7,7 @@ ghost use lib.ListN.{length, take};
 ghost use Rattle.std.specs.Of.Vec.{vec-items, vec-len, vec-cap};
 ghost use Rattle.std.specs.shelf.Text.{sameBytes};
 ghost use Rattle.syntax.specs.Names.{among as amongst, before as precedes, sooner as soonest, number as numbered, binderOf};
-ghost use Rattle.syntax.specs.Scopes.{declare as declared, enter as entered, found as place, unused as idle, occur as occurred, leave};
+ghost use Rattle.syntax.specs.Scopes.{declare as declared, enter as entered, found as place, unused as idle, occur as occurred, leave, settle as settled, shut};
 ghost use Rattle.syntax.specs.Held.{spelled, inForce, namesOf, bindersOf};
 ghost use Rattle.syntax.specs.Steps.{binderAt};
 use crate::names::Binder;
@@ -136,4 +136,24 @@ fn unused(names: &[InForce], least: Option<Refusal>) -> Option<Refusal>
         }
     }
     least
+}
+
+// Names that go out of force have to be used.
+pub fn settle(scope: &mut Scope, before: usize)
+    requires { ⌜ before ≤ length (vec-items (now scope .«in_force»)) ⌝ }
+    ensures { λ _. ⌜ namesOf (now (scope .exit)) ≡ settled before (namesOf (now (scope .entry))) ⌝ }
+{
+    scope.least = unused(&scope.in_force[before..], scope.least);
+}
+
+// Puts the height of the names in force back on every way out.
+pub struct Guard<'a>(pub &'a mut Scope, pub usize);
+
+impl Drop for Guard<'_> {
+    fn drop(self)
+        ensures { λ _. ⌜ namesOf (now (self .exit .0)) ≡ shut (self .entry .1) (namesOf (now (self .entry .0))) ⌝ }
+    {
+        let Guard(scope, before) = self;
+        scope.in_force.truncate(before);
+    }
 }

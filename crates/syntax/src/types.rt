@@ -5,11 +5,13 @@ ghost use mathlib.Core.Path.{_≡_};
 ghost use Prim.Native.Nat.{ℕ, _+_, _-_, _<_, _≤_};
 ghost use lib.ListN.{length};
 ghost use Rattle.std.specs.Of.Vec.{vec-items, vec-len, vec-cap};
-ghost use Rattle.syntax.specs.Parse.{type, joint as joints};
+ghost use Rattle.syntax.specs.Parse.{type, joint as joints, functionHead};
 ghost use Rattle.syntax.specs.Signs.{lex};
-ghost use Rattle.syntax.specs.Steps.{Gives, TypeHeld, cellOf};
+ghost use Rattle.syntax.specs.Steps.{Gives, TypeHeld, HeadHeld, cellOf};
+use crate::names::Head;
 use crate::program::TypeCell;
 use crate::refusal::Refusal;
+use crate::scan::binder;
 use crate::scan::expect;
 use crate::scan::passed_limit;
 use crate::scan::skip;
@@ -75,4 +77,18 @@ pub fn read_type<'a>(text: &'a [u8], end: usize, depth: usize, open: usize, type
         }
         _ => Err(wrong_sign(end, rest)),
     }
+}
+
+// Reads `x:T.` after a backslash.
+pub fn function_head<'a>(text: &'a [u8], end: usize, types: &mut Vec<TypeCell>) -> Result<(Head<'a>, &'a [u8]), Refusal>
+    requires room { ⌜ 4096 ≤ vec-cap (now types) ⌝ }
+    requires few { ⌜ length (vec-items (now types)) ≤ 2048 ⌝ }
+    ensures gives { λ r. ⌜ Gives end (HeadHeld (vec-items (now (types .entry))) (vec-items (now (types .exit)))) (functionHead end (length (vec-items (now (types .entry)))) (lex end (now (text .entry)))) r ⌝ }
+    ensures room { λ r. ⌜ vec-cap (now (types .exit)) ≡ vec-cap (now (types .entry)) ⌝ }
+{
+    let (binder, rest) = binder(text, end)?;
+    let rest = expect(rest, end, b':')?;
+    let (annotation, rest) = read_type(rest, end, 0, 0, types)?;
+    let rest = expect(rest, end, b'.')?;
+    Ok((Head { binder, annotation }, rest))
 }

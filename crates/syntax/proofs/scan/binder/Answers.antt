@@ -8,7 +8,7 @@ use Rattle.std.proofs.shelf.Ways.{tells}
 use Rattle.syntax.specs.Signs.{lex, letter, isName}
 use Rattle.syntax.specs.Parse.{got, refused}
 use Rattle.syntax.specs.Steps.{run, binderAt}
-use Rattle.syntax.proofs.Scanning.{binder-hit, binder-miss}
+use Rattle.syntax.proofs.Scanning.{binder-hit, binder-miss, name-short}
 use Rattle.syntax.proofs.scan.binder.Needs as need
 use Rattle.syntax.proofs.scan.binder.Needs.{then-is-empty·by·then-is-empty, then-is-empty·by·else-is-empty·then-not-is-name}
 
@@ -26,4 +26,4 @@ returns c =
     let e = c .run .ensures .front in
     let some : 1 ≤ length (c .run .result .0 .now) = grind (arith, tells, c .if-is-empty .left, c .is-empty .ensures) in
     let hit = binder-hit (c .args .end) (c .args .text .now) rest (c .skip-rest .ensures) (omega (arith, ap length e)) (ap isName (sym e) ∙ sym (c .is-name .ensures) ∙ c .if-not-is-name .left) in
-    (record { place = c .place-of .result; name = c .run .result .0 .now }, hit ∙ cc (c .place-of .ensures, e, c .run .ensures .rest), refl)
+    (record { place = c .place-of .result; name = c .run .result .0 .now }, hit ∙ cc (c .place-of .ensures, e, c .run .ensures .rest), record { is = refl; short = name-short (c .run .result .0 .now) (sym (c .is-name .ensures) ∙ c .if-not-is-name .left) })

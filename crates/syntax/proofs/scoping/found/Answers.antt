@@ -9,16 +9,10 @@ use lib.Seq.{drop-length, drop-cons}
 use Rattle.std.proofs.shelf.Lists.{getD-map}
 use Rattle.std.specs.declared.option.Option.the-variants.{Some, None}
 use Rattle.std.specs.shelf.Text.{sameBytes}
-use Rattle.syntax.specs.declared.scope.InForce.{InForce as HeldForce}
 use Rattle.syntax.specs.Scopes.{found, nobody}
 use Rattle.syntax.specs.Held.{spelled, inForce}
-use Rattle.syntax.proofs.NameSteps.{found-none, found-at}
+use Rattle.syntax.proofs.NameSteps.{drop-map, found-none, found-at}
 use Rattle.syntax.proofs.scoping.found.Needs as need
-
-drop-map : (n : ℕ) (xs : List HeldForce) → drop n (map inForce xs) ≡ map inForce (drop n xs)
-drop-map ℕ.zero xs = refl
-drop-map (suc n) [] = refl
-drop-map (suc n) (x ∷ xs) = drop-map n xs
 
 pub loop-i-holds : need.loop-i-holds
 loop-i-holds c = (omega arith, ap (λ s. found (c .args .word .now) (map inForce s)) (drop-length (c .args .names .now)))
@@ -30,7 +24,7 @@ returns-then-same c =
     let k = c .loop-i .i - 1 in
     let within : k < length xs = omega (arith, c .loop-i .inv .0, c .loop-i-test .taken) in
     let up : suc k ≡ c .loop-i .i = omega (arith, c .loop-i-test .taken) in
-    let rest : found w (drop (suc k) (map inForce xs)) ≡ None = ap (found w) (drop-map (suc k) xs) ∙ ap (λ (n : ℕ). found w (map inForce (drop n xs))) up ∙ c .loop-i .inv .1 in
+    let rest : found w (drop (suc k) (map inForce xs)) ≡ None = ap (found w) (drop-map inForce (suc k) xs) ∙ ap (λ (n : ℕ). found w (map inForce (drop n xs))) up ∙ c .loop-i .inv .1 in
     let at = getD-map inForce xs k (c .index-names-i .result) nobody within in
     sym (found-at w (map inForce xs) k (omega (arith, length-map xs inForce)) rest (ap (λ x. sameBytes w (x .binder .name)) at ∙ sym (c .same .ensures) ∙ c .if-same .taken))
 
