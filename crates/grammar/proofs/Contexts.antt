@@ -77,30 +77,33 @@ pub count-without : (x y : ℕ) (l : List ℕ) → eqb x y ≡ false → count x
 count-without x y [] n = refl
 count-without x y (z ∷ l) n =
     elim (cases-bool (eqb y z)) [
-      inl h ↦ (let o : eqb x z ≡ false = subst (λ w. eqb x w ≡ false) (eqb-true y z h) n in rw (h, o) (count-without x y l n))
-    | inr h ↦ rw h (ap (λ c. cond (eqb x z) (suc c) c) (count-without x y l n)) ]
+      | inl h ↦ (let o : eqb x z ≡ false = subst (λ w. eqb x w ≡ false) (eqb-true y z h) n in rw (h, o) (count-without x y l n))
+      | inr h ↦ rw h (ap (λ c. cond (eqb x z) (suc c) c) (count-without x y l n))
+    ]
 
 -- a variable that stands once among the uses can be taken out
 absent-given : (e : Env) (x : ℕ) (T : Ty) (l : List ℕ) → count x l ≡ 0 → Absent x (given e l) × (without x l ≡ l) × (given (put e x T) l ≡ given e l)
 absent-given e x T [] h = (none-left, refl, refl)
 absent-given e x T (y ∷ l) h =
     elim (cases-bool (eqb x y)) [
-      inl n ↦ (let z : suc (count x l) ≡ 0 = rw n at h in absurd (omega arith))
-    | inr n ↦ (
-        let r = absent-given e x T l (rw n at h) in
-        (not-this n (r .0), rw n (ap (λ w. y ∷ w) (r .1)), rw n (ap (λ w. (y, e y) ∷ w) (r .2)))) ]
+      | inl n ↦ (let z : suc (count x l) ≡ 0 = rw n at h in absurd (omega arith))
+      | inr n ↦ (
+          let r = absent-given e x T l (rw n at h) in
+          (not-this n (r .0), rw n (ap (λ w. y ∷ w) (r .1)), rw n (ap (λ w. (y, e y) ∷ w) (r .2))))
+    ]
 
 pub pick-given : (e : Env) (x : ℕ) (T : Ty) (l : List ℕ) → count x l ≡ 1 → Pick x T (given (put e x T) l) (given e (without x l))
 pick-given e x T [] h = absurd (omega arith)
 pick-given e x T (y ∷ l) h =
     elim (cases-bool (eqb x y)) [
-      inl n ↦ (
-        let z : suc (count x l) ≡ 1 = rw n at h in
-        let r = absent-given e x T l (omega arith) in
-        let o : x ≡ y = eqb-true x y n in
-        let p : Pick x T ((x, T) ∷ given e l) (given e l) = here (r .0) in
-        rw (n, r .1, r .2) (subst (λ w. Pick x T ((w, T) ∷ given e l) (given e l)) o p))
-    | inr n ↦ rw n (there n (pick-given e x T l (rw n at h))) ]
+      | inl n ↦ (
+          let z : suc (count x l) ≡ 1 = rw n at h in
+          let r = absent-given e x T l (omega arith) in
+          let o : x ≡ y = eqb-true x y n in
+          let p : Pick x T ((x, T) ∷ given e l) (given e l) = here (r .0) in
+          rw (n, r .1, r .2) (subst (λ w. Pick x T ((w, T) ∷ given e l) (given e l)) o p))
+      | inr n ↦ rw n (there n (pick-given e x T l (rw n at h)))
+    ]
 
 pub count-let : (x y : ℕ) (l : List ℕ) → eqb x y ≡ false → count x l ≡ 1 → count x (without y l) ≡ 1
 count-let x y l n h = count-without x y l n ∙ h
@@ -109,8 +112,9 @@ count-let x y l n h = count-without x y l n ∙ h
 apart : (x y : ℕ) (l : List ℕ) → count x (without y l) ≡ 1 → eqb x y ≡ false
 apart x y l h =
     elim (cases-bool (eqb x y)) [
-      inr n ↦ n
-    | inl n ↦ (let o : x ≡ y = eqb-true x y n in let g : count x (without x l) ≡ 1 = subst (λ z. count x (without z l) ≡ 1) (sym o) h in absurd (omega (arith, none x l, g))) ]
+      | inr n ↦ n
+      | inl n ↦ (let o : x ≡ y = eqb-true x y n in let g : count x (without x l) ≡ 1 = subst (λ z. count x (without z l) ≡ 1) (sym o) h in absurd (omega (arith, none x l, g)))
+    ]
   where
     none : (x : ℕ) (l : List ℕ) → count x (without x l) ≡ 0
     none x [] = refl

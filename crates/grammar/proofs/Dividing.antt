@@ -84,7 +84,8 @@ fronts-digits (at-mark {b = b} e f g d) h = absurd (both-ways (digit b) g h)
 
 letters : Kind letter word withLetter
 letters = record {
-  joins = λ p b q w signs. refl; starts = starts-word;
+  joins = λ p b q w signs. refl;
+  starts = starts-word;
   takes = λ p b s signs h. rw (letter-blank b h, h) refl;
   divides = λ p w s signs r d. at-word w r d;
   fronts = λ p s signs h d. fronts-word d h;
@@ -92,7 +93,8 @@ letters = record {
 
 numbers : Kind digit digits withDigit
 numbers = record {
-  joins = λ p b q w signs. refl; starts = starts-digits;
+  joins = λ p b q w signs. refl;
+  starts = starts-digits;
   takes = λ p b s signs h. rw (digit-blank b h, digit-letter b h, h) refl;
   divides = λ p w s signs r d. at-digits w r d;
   fronts = λ p s signs h d. fronts-digits d h;
@@ -158,6 +160,7 @@ one-division {p} (at-mark {b = b} {s = s} e f g d) end h =
     rw (e, f, g) (ap (λ m. (m, mark b) ∷ lex end s) q ∙ ap (λ z. (p, mark b) ∷ z) i)
 
 pub exactly : DividedExactly
-exactly text signs =
-    (λ h. subst (Divided 0 text) h (subst (λ n. Divided n text (signsOf text)) (let e : length text - length text ≡ 0 = omega arith in e) (divides (length text) text (omega arith))),
-     λ d. one-division d (length text) (omega arith))
+exactly text signs = (
+  λ h. subst (Divided 0 text) h (subst (λ n. Divided n text (signsOf text)) (let e : length text - length text ≡ 0 = omega arith in e) (divides (length text) text (omega arith))),
+  λ d. one-division d (length text) (omega arith),
+)

@@ -27,8 +27,9 @@ Judged e t = Typable e t ⊎ Refused e t
 settle : (e : Env) (t : Tree ℕ) → Parts e t → Node e t → Judged e t
 settle e t k (inr b) = inr (IllTyped, placeOf t, no-type t k (no-derivation e t k b), b)
 settle e t k (inl (A, f)) = elim (cases-lt 64 (height A)) [
-    inl h ↦ inr (HighType, placeOf t, too-high t k (f .derived) h, forms e t (f .derived) (given-agrees e (free (erase t))) k ∙ within-high (placeOf t) A h)
-  | inr h ↦ inl (A, record { derived = f .derived; low = f .rest h }) ]
+  | inl h ↦ inr (HighType, placeOf t, too-high t k (f .derived) h, forms e t (f .derived) (given-agrees e (free (erase t))) k ∙ within-high (placeOf t) A h)
+  | inr h ↦ inl (A, record { derived = f .derived; low = f .rest h })
+]
 
 -- a fault in a part is one of the whole
 succ-bad : (e : Env) (p : ℕ) (t : Tree ℕ) (f : Fault) (q : ℕ) → infer e t ≡ bad f q → infer e (succ p t) ≡ bad f q
@@ -99,11 +100,13 @@ judge : (t : Tree ℕ) (e : Env) → Linear (erase t) → Judged e t
 judge (occ p b) e l = settle e (occ p b) tt (node e (occ p b) tt tt)
 judge (num p n) e l = settle e (num p n) tt (node e (num p n) tt tt)
 judge (succ p t) e l = elim (judge t e l) [
-    inl k ↦ settle e (succ p t) k (node e (succ p t) l k)
-  | inr (f, q, a, b) ↦ inr (f, q, in-succ a, succ-bad e p t f q b) ]
+  | inl k ↦ settle e (succ p t) k (node e (succ p t) l k)
+  | inr (f, q, a, b) ↦ inr (f, q, in-succ a, succ-bad e p t f q b)
+]
 judge (lam p x T t) e l = elim (judge t (put e (x .place) T) (l .1)) [
-    inl k ↦ settle e (lam p x T t) k (node e (lam p x T t) l k)
-  | inr (f, q, a, b) ↦ inr (f, q, in-lam a, lam-bad e p x T t f q b) ]
+  | inl k ↦ settle e (lam p x T t) k (node e (lam p x T t) l k)
+  | inr (f, q, a, b) ↦ inr (f, q, in-lam a, lam-bad e p x T t f q b)
+]
 judge (app p t u) e l = judge-two e t u (app p t u) (judge t e (l .0)) (judge u e (l .1))
     (λ x. (x .0, x .1, in-app₁ (x .2), app-bad₁ e p t u (x .0) (x .1) (x .3)))
     (λ k x. (x .0, x .1, in-app₂ k (x .2), app-bad₂ e p t u (x .0) (x .1) k (x .3)))
@@ -113,25 +116,30 @@ judge (pair p t u) e l = judge-two e t u (pair p t u) (judge t e (l .0)) (judge 
     (λ k x. (x .0, x .1, in-pair₂ k (x .2), pair-bad₂ e p t u (x .0) (x .1) k (x .3)))
     (λ k m. settle e (pair p t u) (k, m) (node e (pair p t u) l (k, m)))
 judge (split p x y t u) e l = elim (judge t e (l .3)) [
-    inr (f, q, a, b) ↦ inr (f, q, in-split₁ a, split-bad₁ e p x y t u f q b)
+  | inr (f, q, a, b) ↦ inr (f, q, in-split₁ a, split-bad₁ e p x y t u f q b)
   | inl (A, h) ↦ elim (not-a-pair A) [
-      inr n ↦ inr (IllTyped, p, no-pair h n, not-pair e p x y t u A h n)
+    | inr n ↦ inr (IllTyped, p, no-pair h n, not-pair e p x y t u A h n)
     | inl (B, C, s) ↦ (
         let k = subst (λ X. Has e t X) s h in
         elim (judge u (put (put e (x .place) B) (y .place) C) (l .4)) [
-          inr (f, q, a, b) ↦ inr (f, q, in-split₂ k a, split-bad₂ e p x y t u B C f q k b)
-        | inl m ↦ settle e (split p x y t u) (B, C, k, m) (node e (split p x y t u) l (B, C, k, m)) ]) ] ]
+          | inr (f, q, a, b) ↦ inr (f, q, in-split₂ k a, split-bad₂ e p x y t u B C f q k b)
+          | inl m ↦ settle e (split p x y t u) (B, C, k, m) (node e (split p x y t u) l (B, C, k, m))
+        ])
+  ]
+]
 judge (iter p t u v) e l = judge-two e t u (iter p t u v) (judge t e (l .0)) (judge u e (l .1))
     (λ x. (x .0, x .1, in-iter₁ (x .2), iter-bad₁ e p t u v (x .0) (x .1) (x .3)))
     (λ k x. (x .0, x .1, in-iter₂ k (x .2), iter-bad₂ e p t u v (x .0) (x .1) k (x .3)))
     (λ k m. elim (judge v e (l .2)) [
-        inl n ↦ settle e (iter p t u v) (k, m, n) (node e (iter p t u v) l (k, m, n))
-      | inr x ↦ inr (x .0, x .1, in-iter₃ k m (x .2), iter-bad₃ e p t u v (x .0) (x .1) k m (x .3)) ])
+      | inl n ↦ settle e (iter p t u v) (k, m, n) (node e (iter p t u v) l (k, m, n))
+      | inr x ↦ inr (x .0, x .1, in-iter₃ k m (x .2), iter-bad₃ e p t u v (x .0) (x .1) k m (x .3))
+    ])
 
 pub inferred : InferredDerived
 inferred e t A l h = elim (judge t e l) [
-    inl (B, k) ↦ (let g : good B ≡ good A = sym (has-infers e t B k) ∙ h in let s : B ≡ A = cc in subst (λ X. Has e t X) s k)
-  | inr (f, p, a, b) ↦ (let g : bad f p ≡ good A = sym b ∙ h in let z : _≡_ {A = ℕ} 0 1 = cc in absurd (omega arith)) ]
+  | inl (B, k) ↦ (let g : good B ≡ good A = sym (has-infers e t B k) ∙ h in let s : B ≡ A = cc in subst (λ X. Has e t X) s k)
+  | inr (f, p, a, b) ↦ (let g : bad f p ≡ good A = sym b ∙ h in let z : _≡_ {A = ℕ} 0 1 = cc in absurd (omega arith))
+]
 
 pub derived : DerivedInferred
 derived e t Γ A h d = complete t e (d .derived) h (d .low)
@@ -141,8 +149,9 @@ linearly Γ t A d = linear d
 
 first-of : (e : Env) (t : Tree ℕ) (f : Fault) (p : ℕ) → Linear (erase t) → infer e t ≡ bad f p → First e t f p
 first-of e t f p l h = elim (judge t e l) [
-    inl (B, k) ↦ (let g : good B ≡ bad f p = sym (has-infers e t B k) ∙ h in let z : _≡_ {A = ℕ} 0 1 = cc in absurd (omega arith))
-  | inr (f₁, p₁, a, b) ↦ (let g : bad f₁ p₁ ≡ bad f p = sym b ∙ h in let s : f₁ ≡ f = cc in let r : p₁ ≡ p = cc in subst (λ X. First e t X p) s (subst (λ X. First e t f₁ X) r a)) ]
+  | inl (B, k) ↦ (let g : good B ≡ bad f p = sym (has-infers e t B k) ∙ h in let z : _≡_ {A = ℕ} 0 1 = cc in absurd (omega arith))
+  | inr (f₁, p₁, a, b) ↦ (let g : bad f₁ p₁ ≡ bad f p = sym b ∙ h in let s : f₁ ≡ f = cc in let r : p₁ ≡ p = cc in subst (λ X. First e t X p) s (subst (λ X. First e t f₁ X) r a))
+]
 
 of-first : {e : Env} {t : Tree ℕ} {f : Fault} {p : ℕ} → First e t f p → Linear (erase t) → infer e t ≡ bad f p
 of-first {e} (no-type t k n) l = elim (node e t l k) [ inl (A, f) ↦ absurd (n A (f .derived)) | inr b ↦ b ]

@@ -13,3 +13,5 @@ mod Naming
 mod Exact
 mod Known
 mod Dividing
+mod Refusals
+mod Verdicts

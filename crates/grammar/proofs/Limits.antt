@@ -96,7 +96,7 @@ term-measures (split p x y t u) d =
     let b = term-measures u (suc d) in
     let v = appended (roles (suc d) t) (plain ∷ roles (suc d) u) in
     let m : Measures (roles (suc d) t ++ (plain ∷ roles (suc d) u)) (size t + size u) (max (a .deep) (b .deep)) (typeSigns t + typeSigns u) (max (typeDepth t) (typeDepth u)) (max (largestNumber t) (largestNumber u)) =
-        record { terms = omega arith; depths = omega arith; types = omega arith; typeDepths = omega arith; numbers = omega arith } in
+    record { terms = omega arith; depths = omega arith; types = omega arith; typeDepths = omega arith; numbers = omega arith } in
     let head = plainly _ _ _ _ _ _ (plainly _ _ _ _ _ _ (plainly _ _ _ _ _ _ (plainly _ _ _ _ _ _ (plainly _ _ _ _ _ _ (plainly _ _ _ _ _ _ m))))) in
     record { deep = max d (max (a .deep) (b .deep)); is = deepest d _ _ (deeper d _ _ _ _ (a .is) (b .is)); all = begun d _ _ _ _ _ _ head }
 term-measures (iter p t u v) d =
@@ -125,7 +125,6 @@ more b n = cond b (suc n) n
 more-counts : (b : Bool) (n c : ℕ) → n + cond b (suc c) c ≡ more b n + c
 more-counts true n c = omega arith
 more-counts false n c = refl
-
 
 may-count : (b : Bool) (n : ℕ) → (not b || ltb n 2048) ≡ true → n ≤ 2048 → more b n ≤ 2048
 may-count true n h l = ltb-true n 2048 h
@@ -158,8 +157,8 @@ room-is n m ρ l k v h =
 is-room : (n m : ℕ) (ρ : Role) → Room n m ρ → room n m ρ ≡ true
 is-room n m ρ h =
     and-from (leb (ρ .depth) 128 && (not (ρ .subterm) || ltb n 2048)) (leb (ρ .typeDepth) 64 && (not (ρ .typeSign) || ltb m 2048))
-      (and-from (leb (ρ .depth) 128) (not (ρ .subterm) || ltb n 2048) (le-leb (ρ .depth) 128 (h .deep)) (count-may (ρ .subterm) n (h .terms)))
-      (and-from (leb (ρ .typeDepth) 64) (not (ρ .typeSign) || ltb m 2048) (le-leb (ρ .typeDepth) 64 (h .typesDeep)) (count-may (ρ .typeSign) m (h .types)))
+    (and-from (leb (ρ .depth) 128) (not (ρ .subterm) || ltb n 2048) (le-leb (ρ .depth) 128 (h .deep)) (count-may (ρ .subterm) n (h .terms)))
+    (and-from (leb (ρ .typeDepth) 64) (not (ρ .typeSign) || ltb m 2048) (le-leb (ρ .typeDepth) 64 (h .typesDeep)) (count-may (ρ .typeSign) m (h .types)))
 
 -- the limits on roles, where n sub-terms and m type signs stand before them
 pub record KeptFrom (n m : ℕ) (l : List Role) : Type 0 where
@@ -228,9 +227,10 @@ pub breaks : (l : List Role) (ρ : Role) (a b : ℕ) (f : Fault) → Counted 0 0
 breaks l ρ a b f h c =
     let v = appended l (ρ ∷ []) in
     elim (refusing (leb (ρ .value) 1000000000) (room a b ρ) f (refuses f) (more (ρ .subterm) a) (more (ρ .typeSign) b) c) [
-      inl p ↦ subst (Broken (l ++ (ρ ∷ []))) (p .1) (too-large (let w = leb-false (ρ .value) 1000000000 (p .0) in omega arith))
-    | inr p ↦ subst (Broken (l ++ (ρ ∷ []))) (p .2) (passed (let w = leb-true (ρ .value) 1000000000 (p .0) in let u = h .kept .numbers in omega arith) (λ k.
-        let x = more-counts (ρ .subterm) a 0 in
-        let y = more-counts (ρ .typeSign) b 0 in
-        let r : Room a b ρ = record { value = leb-true (ρ .value) 1000000000 (p .0); deep = omega (arith, k .deep); typesDeep = omega (arith, k .typesDeep); terms = omega (arith, k .subterms, h .first, x); types = omega (arith, k .signs, h .second, y) } in
-        both-ways (room a b ρ) (p .1) (is-room a b ρ r))) ]
+      | inl p ↦ subst (Broken (l ++ (ρ ∷ []))) (p .1) (too-large (let w = leb-false (ρ .value) 1000000000 (p .0) in omega arith))
+      | inr p ↦ subst (Broken (l ++ (ρ ∷ []))) (p .2) (passed (let w = leb-true (ρ .value) 1000000000 (p .0) in let u = h .kept .numbers in omega arith) (λ k.
+          let x = more-counts (ρ .subterm) a 0 in
+          let y = more-counts (ρ .typeSign) b 0 in
+          let r : Room a b ρ = record { value = leb-true (ρ .value) 1000000000 (p .0); deep = omega (arith, k .deep); typesDeep = omega (arith, k .typesDeep); terms = omega (arith, k .subterms, h .first, x); types = omega (arith, k .signs, h .second, y) } in
+          both-ways (room a b ρ) (p .1) (is-room a b ρ r)))
+    ]

@@ -315,7 +315,9 @@ ahead-down i K vs s r f d =
     let J = d .move .rest in
     let w = joined J K (d .parts) (vs .1) in
     record {
-      move = d .move; predicted = d .predicted; values = w;
+      move = d .move;
+      predicted = d .predicted;
+      values = w;
       fills = fills-both J K (d .parts) (vs .1) (d .left) r (d .stands) f;
       makes = ap (λ z. (d .move .value (d .place) z, backs J K w)) (fronts-joined J K (d .parts) (vs .1)) ∙ ap (λ z. (d .move .value (d .place) (d .parts), z)) (backs-joined J K (d .parts) (vs .1)) ∙ ap (λ z. (z, vs .1)) (d .makes);
     }

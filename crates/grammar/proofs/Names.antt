@@ -98,7 +98,7 @@ occurs w (app p t u) = rw (occurs w t, occurs w u) (sym (places-append w (loose 
 occurs w (pair p t u) = rw (occurs w t, occurs w u) (sym (places-append w (loose t) (loose u)))
 occurs w (split p x y t u) =
     let e : places w (except (x .name) (except (y .name) (loose u))) ≡ cond (sameBytes w (x .name) || sameBytes w (y .name)) [] (places w (loose u)) =
-        places-except w (x .name) (except (y .name) (loose u)) ∙ ap (cond (sameBytes w (x .name)) []) (places-except w (y .name) (loose u)) ∙ twice (sameBytes w (x .name)) (sameBytes w (y .name)) in
+    places-except w (x .name) (except (y .name) (loose u)) ∙ ap (cond (sameBytes w (x .name)) []) (places-except w (y .name) (loose u)) ∙ twice (sameBytes w (x .name)) (sameBytes w (y .name)) in
     rw (occurs w t, occurs w u) (sym (places-append w (loose t) (except (x .name) (except (y .name) (loose u))) ∙ ap (λ z. places w (loose t) ++ z) e))
   where
     twice : (a b : Bool) → cond a [] (cond b [] (places w (loose u))) ≡ cond (a || b) [] (places w (loose u))
@@ -150,7 +150,7 @@ loose-from (app p t u) lo h = from-append lo (loose t) (loose u) (loose-from t l
 loose-from (pair p t u) lo h = from-append lo (loose t) (loose u) (loose-from t lo (h .0)) (loose-from u lo (h .1))
 loose-from (split p x y t u) lo h =
     from-append lo (loose t) (except (x .name) (except (y .name) (loose u))) (loose-from t lo (h .2))
-      (from-except lo (x .name) (except (y .name) (loose u)) (from-except lo (y .name) (loose u) (from-lower (suc (y .place)) lo (loose u) (omega (arith, h .0, h .1)) (loose-from u (suc (y .place)) (h .3)))))
+    (from-except lo (x .name) (except (y .name) (loose u)) (from-except lo (y .name) (loose u) (from-lower (suc (y .place)) lo (loose u) (omega (arith, h .0, h .1)) (loose-from u (suc (y .place)) (h .3)))))
 loose-from (iter p t u v) lo h = from-append lo (loose t) (loose u ++ loose v) (loose-from t lo (h .0)) (from-append lo (loose u) (loose v) (loose-from u lo (h .1)) (loose-from v lo (h .2)))
 
 -- a binder in force, or the use itself where there is none
@@ -230,8 +230,8 @@ first-count σ lo x y u h l m k =
     let f = loose-from u (suc (y .place)) k in
     let apart : eqb (x .place) (y .place) ≡ false = ne-eqb (x .place) (y .place) (λ e. omega arith) in
     ap (λ ρ. count (x .place) (free (erase (resolve ρ u)))) (two-more σ x y)
-      ∙ ap (count (x .place)) (uses u (τ ++ (y ∷ [])) (suc (y .place)) n k)
-      ∙ sym (count-without (x .place) (y .place) (resolved (τ ++ (y ∷ [])) (loose u)) apart)
-      ∙ ap (count (x .place)) (leave (suc (x .place)) τ y (loose u) b m f)
-      ∙ its lo σ x (except (y .name) (loose u)) h l (from-except (suc (x .place)) (y .name) (loose u) (from-lower (suc (y .place)) (suc (x .place)) (loose u) (omega arith) f))
-      ∙ ap length (places-except (x .name) (y .name) (loose u) ∙ ap (cond (sameBytes (x .name) (y .name)) []) (sym (occurs (x .name) u)))
+    ∙ ap (count (x .place)) (uses u (τ ++ (y ∷ [])) (suc (y .place)) n k)
+    ∙ sym (count-without (x .place) (y .place) (resolved (τ ++ (y ∷ [])) (loose u)) apart)
+    ∙ ap (count (x .place)) (leave (suc (x .place)) τ y (loose u) b m f)
+    ∙ its lo σ x (except (y .name) (loose u)) h l (from-except (suc (x .place)) (y .name) (loose u) (from-lower (suc (y .place)) (suc (x .place)) (loose u) (omega arith) f))
+    ∙ ap length (places-except (x .name) (y .name) (loose u) ∙ ap (cond (sameBytes (x .name) (y .name)) []) (sym (occurs (x .name) u)))

@@ -146,9 +146,10 @@ differ v w h = elim (cases-bool (sameBytes w v)) [ inl e ↦ absurd (h (sym (sam
 clear-more : (w : Name) (σ : List Name) (xs : List Binder) → Clear (w ∷ σ) xs ↔ (Unlike w xs × Clear σ xs)
 clear-more w σ [] = (λ h. (tt, tt), λ h. tt)
 clear-more w σ (x ∷ xs) =
-    let i = clear-more w σ xs in
-    (λ h. (let p = or-parts (sameBytes (x .name) w) (among (x .name) σ) (h .0) in let r = i .0 (h .1) in ((λ e. both-ways (sameBytes (x .name) w) (p .0) (subst (λ z. sameBytes z w ≡ true) e (same-self w)), r .0), (p .1, r .1))),
-     λ h. (or-from (sameBytes (x .name) w) (among (x .name) σ) (differ w (x .name) (h .0 .0)) (h .1 .0), i .1 (h .0 .1, h .1 .1)))
+    let i = clear-more w σ xs in (
+      λ h. (let p = or-parts (sameBytes (x .name) w) (among (x .name) σ) (h .0) in let r = i .0 (h .1) in ((λ e. both-ways (sameBytes (x .name) w) (p .0) (subst (λ z. sameBytes z w ≡ true) e (same-self w)), r .0), (p .1, r .1))),
+      λ h. (or-from (sameBytes (x .name) w) (among (x .name) σ) (differ w (x .name) (h .0 .0)) (h .1 .0), i .1 (h .0 .1, h .1 .1)),
+    )
 
 bound-once : (xs : List Binder) (σ : List Name) → (boundTwice σ xs ≡ []) ↔ (Distinct xs × Clear σ xs)
 bound-once [] σ = (λ h. (tt, tt), λ h. refl)
@@ -169,12 +170,12 @@ sooner-some : (f : Refusal) (o : Option Refusal) → sooner f o ≡ None → ⊥
 sooner-some f None h = let z : _≡_ {A = ℕ} 0 1 = cc in omega arith
 sooner-some f (Some g) h = let z : _≡_ {A = ℕ} 0 1 = cc in omega arith
 
-no-least : (fs : List Refusal) → (least fs ≡ None) ↔ (fs ≡ [])
+pub no-least : (fs : List Refusal) → (least fs ≡ None) ↔ (fs ≡ [])
 no-least [] = (λ h. refl, λ h. refl)
 no-least (f ∷ fs) = (λ h. absurd (sooner-some f (least fs) h), λ h. let z : _≡_ {A = ℕ} 0 1 = cc in absurd (omega arith))
 
 -- a fault that does not go before another, by its place and number
-behind : (g f : Refusal) → before g f ≡ false → (f .place < g .place) ⊎ ((f .place ≡ g .place) × (number (f .fault) ≤ number (g .fault)))
+pub behind : (g f : Refusal) → before g f ≡ false → (f .place < g .place) ⊎ ((f .place ≡ g .place) × (number (f .fault) ≤ number (g .fault)))
 behind g f h = grind (arith, tells)
 
 not-before : (g f : Refusal) → (f .place < g .place) ⊎ ((f .place ≡ g .place) × (number (f .fault) ≤ number (g .fault))) → before g f ≡ false
@@ -188,9 +189,10 @@ right text t s =
     let b = bound-once (binders t) [] in
     let n = no-least (nameFaults t) in
     let e = none (unbound [] t) (boundTwice [] (binders t) ++ misused t) in
-    let d = none (boundTwice [] (binders t)) (misused t) in
-    (λ h. (let p = e .0 (n .0 h) in let q = d .0 (p .1) in record { once = b .0 (q .0) .0; linear = l .0 (q .1); closed = c .0 (p .0) }),
-     λ h. n .1 (e .1 (c .1 (h .closed), d .1 (b .1 (h .once, all-clear (binders t)), l .1 (h .linear)))))
+    let d = none (boundTwice [] (binders t)) (misused t) in (
+      λ h. (let p = e .0 (n .0 h) in let q = d .0 (p .1) in record { once = b .0 (q .0) .0; linear = l .0 (q .1); closed = c .0 (p .0) }),
+      λ h. n .1 (e .1 (c .1 (h .closed), d .1 (b .1 (h .once, all-clear (binders t)), l .1 (h .linear)))),
+    )
 
 first-of : (g h k : Refusal) → before g h ≡ true → before k h ≡ false → before k g ≡ false
 first-of g h k x y = not-before k g (grind (arith, tells, behind k h y))

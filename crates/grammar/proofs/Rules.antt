@@ -47,8 +47,9 @@ within-high p A h = rw (lt-leb (height A) 64 h) refl
 
 within-typed : (p : ℕ) (A : Ty) (q : ℕ) → within p A ≡ bad IllTyped q → ⊥
 within-typed p A q h = elim (cases-bool (leb (height A) 64)) [
-    inl x ↦ (let g : good A ≡ bad IllTyped q = rw x at h in let z : _≡_ {A = ℕ} 0 1 = cc in omega arith)
-  | inr x ↦ (let g : bad HighType p ≡ bad IllTyped q = rw x at h in let z : _≡_ {A = ℕ} 0 1 = cc in omega arith) ]
+  | inl x ↦ (let g : good A ≡ bad IllTyped q = rw x at h in let z : _≡_ {A = ℕ} 0 1 = cc in omega arith)
+  | inr x ↦ (let g : bad HighType p ≡ bad IllTyped q = rw x at h in let z : _≡_ {A = ℕ} 0 1 = cc in omega arith)
+]
 
 -- with the types that the rule asks of the parts
 succ-forms : (e : Env) (p : ℕ) (t : Tree ℕ) → infer e t ≡ good N → infer e (succ p t) ≡ within p N
@@ -145,11 +146,12 @@ unfolding infer
 app-node e p t u N C h k = inr (rw (has-infers e t N h, has-infers e u C k) refl)
 app-node e p t u (A ⊗ B) C h k = inr (rw (has-infers e t (A ⊗ B) h, has-infers e u C k) refl)
 app-node e p t u (A ⇒ B) C h k = elim (cases-bool (same A C)) [
-    inl s ↦ (
+  | inl s ↦ (
       let k′ = subst (λ X. Has e u X) (sym (same-is A C s)) k in
       let f : Formed (given e (free (erase t)) ++ given e (free (erase u))) (erase (app p t u)) B = record { derived = ty-app (h .derived) (k′ .derived); rest = λ l. (let m = h .low in let n = k′ .low in omega arith) } in
       inl (B, subst (λ Γ. Formed Γ (erase (app p t u)) B) (sym (given-append e (free (erase t)) (free (erase u)))) f))
-  | inr s ↦ inr (rw (has-infers e t (A ⇒ B) h, has-infers e u C k, s) refl) ]
+  | inr s ↦ inr (rw (has-infers e t (A ⇒ B) h, has-infers e u C k, s) refl)
+]
 
 pair-node : (e : Env) (p : ℕ) (t u : Tree ℕ) (A B : Ty) → Has e t A → Has e u B → Node e (pair p t u)
 pair-node e p t u A B h k =
@@ -173,7 +175,7 @@ iter-node e p t u v (A ⊗ B) F C h k m = inr (rw (has-infers e t (A ⊗ B) h, h
 iter-node e p t u v N N C h k m = inr (rw (has-infers e t N h, has-infers e u N k, has-infers e v C m) refl)
 iter-node e p t u v N (A ⊗ B) C h k m = inr (rw (has-infers e t N h, has-infers e u (A ⊗ B) k, has-infers e v C m) refl)
 iter-node e p t u v N (A ⇒ B) C h k m = elim (cases-bool (same A B && same A C)) [
-    inl s ↦ (
+  | inl s ↦ (
       let q = and-parts (same A B) (same A C) s in
       let k′ = subst (λ X. Has e u (A ⇒ X)) (sym (same-is A B (q .0))) k in
       let k″ = subst (λ X. Has e u (X ⇒ X)) (same-is A C (q .1)) k′ in
@@ -183,7 +185,8 @@ iter-node e p t u v N (A ⇒ B) C h k m = elim (cases-bool (same A B && same A C
       let f : Formed (Γ ++ (Δ ++ Θ)) (erase (iter p t u v)) C = record { derived = ty-iter (h .derived) (k″ .derived) (m .derived); rest = λ l. (let x = h .low in let y = k″ .low in let z = m .low in omega arith) } in
       let g = given-append e (free (erase t)) (free (erase u) ++ free (erase v)) ∙ ap (λ w. Γ ++ w) (given-append e (free (erase u)) (free (erase v))) in
       inl (C, subst (λ w. Formed w (erase (iter p t u v)) C) (sym g) f))
-  | inr s ↦ inr (rw (has-infers e t N h, has-infers e u (A ⇒ B) k, has-infers e v C m, s) refl) ]
+  | inr s ↦ inr (rw (has-infers e t N h, has-infers e u (A ⇒ B) k, has-infers e v C m, s) refl)
+]
 
 pub node : (e : Env) (t : Tree ℕ) → Linear (erase t) → Parts e t → Node e t
 node e (occ p b) l k = inl (e b, record { derived = ty-var; rest = λ h. h })

@@ -75,6 +75,16 @@ take-move i K vs p x s μ e f =
     let t : Taken i K vs p x s (h .move) = record { values = h .values; fills = h .fills; makes = h .makes; sorts = ap (allRoles (i ∷ K)) (sym (h .makes)) ∙ backwards i x (h .move) (h .predicted) .sorts p K (h .values) } in
     subst (Taken i K vs p x s) (let w : h .move ≡ μ = cc in w) t
 
+-- one role for each sign
+pub as-long : (s : List Placed) (K : List Item) (vs : Vals K) → Fills K vs s → length (allRoles K vs) ≡ length s
+as-long [] [] vs f = refl
+as-long [] (i ∷ K) vs f = absurd (not-empty i K vs f)
+as-long ((p, x) ∷ s) [] vs f = let z : _≡_ {A = ℕ} 0 1 = cc in absurd (omega arith)
+as-long ((p, x) ∷ s) (i ∷ K) vs f =
+    let h = forwards i K vs p x s f in
+    let t = take-move i K vs p x s (h .move) (h .predicted) f in
+    ap length (t .sorts) ∙ ap suc (as-long s (h .move .rest ++ K) (t .values) (t .fills))
+
 module _ (check : Check) (end : ℕ) where
   pub accepts : (s : List Placed) (K : List Item) (vs : Vals K) (n m a b : ℕ) → Fills K vs s → Leads check n m (allRoles K vs) a b → run check end s K n m ≡ done vs
   accepts [] [] vs n m a b f l = refl
@@ -156,7 +166,11 @@ module _ (check : Check) (end : ℕ) where
 
   limit-later : (i : Item) (K : List Item) (p : ℕ) (x : Sign) (μ : Move (Val i)) (front rest : List Placed) (trace : List Role) (a b : ℕ) (f : Refusal) → next i x ≡ some μ → Limit (μ .rest ++ K) front rest trace a b f → Limit (i ∷ K) ((p, x) ∷ front) rest (μ .role ∷ trace) a b f
   limit-later i K p x μ front rest trace a b f e w = record {
-    sign = w .sign; more = w .more; role = w .role; is = w .is; refused = w .refused;
+    sign = w .sign;
+    more = w .more;
+    role = w .role;
+    is = w .is;
+    refused = w .refused;
     goes = (let g = w .goes in (g .0, make μ p K (g .1), backwards i x μ e .fills p K (g .1) _ (g .2)));
     traced = λ q y vs h.
         let t = take-move i K vs p x (front ++ ((q, w .sign) ∷ y)) μ e h in
@@ -166,7 +180,11 @@ module _ (check : Check) (end : ℕ) where
 
   halted-later : (i : Item) (K : List Item) (p : ℕ) (x : Sign) (s : List Placed) (n m k j : ℕ) (f : Refusal) (μ : Move (Val i)) → next i x ≡ some μ → check n m (μ .role) ≡ passes k j → Halted s (μ .rest ++ K) k j f → Halted ((p, x) ∷ s) (i ∷ K) n m f
   halted-later i K p x s n m k j f μ e c h = record {
-    front = (p, x) ∷ h .front; rest = h .rest; trace = μ .role ∷ h .trace; a = h .a; b = h .b;
+    front = (p, x) ∷ h .front;
+    rest = h .rest;
+    trace = μ .role ∷ h .trace;
+    a = h .a;
+    b = h .b;
     is = ap (λ z. (p, x) ∷ z) (h .is);
     long = ap suc (h .long);
     leads = (k, j, c, h .leads);
@@ -183,7 +201,11 @@ module _ (check : Check) (end : ℕ) where
 
   refused-here : (i : Item) (K : List Item) (p : ℕ) (x : Sign) (s : List Placed) (n m : ℕ) (g : Fault) (μ : Move (Val i)) → next i x ≡ some μ → check n m (μ .role) ≡ refuses g → Limit (i ∷ K) [] ((p, x) ∷ s) [] n m (fault g p)
   refused-here i K p x s n m g μ e c = record {
-    sign = x; more = s; role = μ .role; is = refl; refused = c;
+    sign = x;
+    more = s;
+    role = μ .role;
+    is = refl;
+    refused = c;
     goes = (let v = fillable (μ .rest ++ K) in (v .0, make μ p K (v .1), backwards i x μ e .fills p K (v .1) (v .0) (v .2)));
     traced = λ q y vs h. let t = take-move i K vs q x y μ e h in (allRoles (μ .rest ++ K) (t .values), t .sorts);
   }

@@ -14,9 +14,9 @@ use Rattle.syntax.specs.Signs.{Sign, Placed}
 use Rattle.syntax.specs.Grammar.{Stands, Within}
 use Rattle.syntax.specs.Parse.{Out, got, refused, andThen, term, last, whole}
 use Rattle.grammar.specs.Roles.{Role, roles, Kept, Broken}
-use Rattle.grammar.specs.Reading.{Read, ReadSpelled, SpelledRead, Unambiguous, Begins, KeptBefore, Misplaced, Passes, Refused, misplaced, passes, RefusedRightly}
+use Rattle.grammar.specs.Reading.{RolesFit, ReadSpelled, SpelledRead, Unambiguous, Begins, KeptBefore, Misplaced, Passes, Refused, misplaced, passes, RefusedRightly}
 use Rattle.grammar.proofs.Machine.{Item, aTerm, Vals, Fills, allRoles}
-use Rattle.grammar.proofs.Runs.{Checks, Check, Outcome, done, stop, mapped, run, Leads, accepts, Accepted, accepted, Wrong, Limit, Halted, halted}
+use Rattle.grammar.proofs.Runs.{Checks, Check, Outcome, done, stop, mapped, run, Leads, as-long, accepts, accepted, Halted, halted}
 use Rattle.grammar.proofs.Runs as runs
 use Rattle.grammar.proofs.Simulation.{limits, handle, step-then, sim-term}
 use Rattle.grammar.proofs.Limits.{within-kept, kept-within, KeptFrom, Counted, leads-kept, kept-leads, kept-from, from-kept, breaks}
@@ -62,6 +62,9 @@ filled t s h = ([], h, refl)
 
 goal-roles : (t : Tree Name) → allRoles goal (t, tt) ≡ roles 1 t
 goal-roles t = append-nil (roles 1 t)
+
+pub fit : RolesFit
+fit s t h = (ap length (sym (goal-roles t)) ∙ as-long s goal (t, tt) (filled t s h), (kept-within t, within-kept t))
 
 pub sound : ReadSpelled
 sound end s t r h =
@@ -119,9 +122,11 @@ rightly end s f h =
     let c = leads-kept (d .trace) 0 0 (d .a) (d .b) (omega arith) (omega arith) (d .leads) in
     let kept = kept-before end s f d c in
     elim (d .why) [
-      inl w ↦ subst (λ z. Refused end s (record { fault = z; place = f .place })) (sym (w .fault)) (misplaced (record { front = d .front; rest = d .rest; is = d .is; place = w .place; begins = begins-some (d .front) (d .goes); kept = kept; stuck = λ y t n st. w .stuck y (t, tt) n (filled t (d .front ++ y) st) }))
-    | inr w ↦ passes (record {
-        front = d .front; sign = w .sign; rest = w .more;
+      | inl w ↦ subst (λ z. Refused end s (record { fault = z; place = f .place })) (sym (w .fault)) (misplaced (record { front = d .front; rest = d .rest; is = d .is; place = w .place; begins = begins-some (d .front) (d .goes); kept = kept; stuck = λ y t n st. w .stuck y (t, tt) n (filled t (d .front ++ y) st) }))
+      | inr w ↦ passes (record {
+        front = d .front;
+        sign = w .sign;
+        rest = w .more;
         is = d .is ∙ ap (λ z. d .front ++ z) (w .is);
         begins = (let g = w .goes in begins-some (d .front ++ ((f .place, w .sign) ∷ [])) (g .0, g .1, subst (Fills goal (g .1)) (sym (append-assoc (d .front) ((f .place, w .sign) ∷ []) (g .0))) (g .2)));
         kept = kept;
@@ -132,4 +137,5 @@ rightly end s f h =
             let n : suc (length (d .front)) ≡ length l = ap suc (sym (d .long)) ∙ one-more (d .trace) (w .role) in
             let x : take (suc (length (d .front))) (roles 1 t) ≡ l = ap (λ k. take k (roles 1 t)) n ∙ ap (take (length l)) e ∙ take-append-seam l (r .0) in
             subst (λ z. Broken z (f .fault)) (sym x) (breaks (d .trace) (w .role) (d .a) (d .b) (f .fault) c (w .refused));
-      }) ]
+      })
+    ]

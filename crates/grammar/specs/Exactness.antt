@@ -20,7 +20,8 @@ use Rattle.grammar.specs.Faults.{First}
 use Rattle.grammar.specs.Typings.{Alike}
 use Rattle.grammar.specs.Reading.{Refused}
 use Rattle.grammar.specs.Naming.{Distinct, WellNamed, Least}
-use Rattle.grammar.specs.Answers.{nobody, answers}
+use Rattle.language.specs.Judgements.{nobody}
+use Rattle.language.specs.Accepts.{accepts}
 
 -- the text spells t within the limits, no name is bound twice, and the empty context derives it at N
 pub record Accepted (text : List ℕ) (t : Tree Name) : Type 0 where
@@ -32,7 +33,7 @@ pub record Accepted (text : List ℕ) (t : Tree Name) : Type 0 where
   pub few : iterators (erase (resolve [] t)) ≤ 64
 
 abbrev pub AcceptedExactly : Type 0
-AcceptedExactly = (text : List ℕ) (r : Tree ℕ) → (answers text ≡ Ok r) ↔ ((t : Tree Name) × Accepted text t × (resolve [] t ≡ r))
+AcceptedExactly = (text : List ℕ) (r : Tree ℕ) → (accepts text ≡ Ok r) ↔ ((t : Tree Name) × Accepted text t × (resolve [] t ≡ r))
 
 -- the term is the only one, and so is the type of each of its sub-terms
 pub record One (text : List ℕ) (t : Tree Name) : Type 0 where
@@ -58,5 +59,5 @@ pub data Rejected (text : List ℕ) : Refusal → Type 0 where
   no-number : {A : Ty} (t : Tree Name) → Named text t → Derives [] (erase (resolve [] t)) A → (A ≡ N → ⊥) → Rejected text (fault NoNumber 0)
   many-iterators : (t : Tree Name) → Named text t → Derives [] (erase (resolve [] t)) N → 64 < iterators (erase (resolve [] t)) → Rejected text (fault ManyIterators 0)
 
-abbrev pub RejectedRightly : Type 0
-RejectedRightly = (text : List ℕ) (f : Refusal) → answers text ≡ Err f → Rejected text f
+abbrev pub RejectedExactly : Type 0
+RejectedExactly = (text : List ℕ) (f : Refusal) → (accepts text ≡ Err f) ↔ Rejected text f

@@ -5,7 +5,7 @@ pub mod Typings
 pub mod Roles
 pub mod Reading
 pub mod Naming
-pub mod Answers
 pub mod Exactness
 pub mod Examples
 pub mod Dividing
+pub mod Verdicts

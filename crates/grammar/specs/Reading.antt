@@ -1,6 +1,7 @@
 -- That signs are read exactly as the grammar spells terms, and refused at the right sign. Assumes nothing.
 use mathlib.Core.Path.{_≡_}
 use mathlib.Core.List.{List, [], _∷_, _++_}
+use mathlib.Core.Logic.{_↔_}
 use Prim.Native.Nat.{ℕ, suc}
 use lib.ListN.{length, take}
 use Rattle.syntax.specs.declared.refusal.Fault.{Fault}
@@ -11,6 +12,10 @@ use Rattle.syntax.specs.Signs.{Sign, Placed}
 use Rattle.syntax.specs.Grammar.{Stands, Within}
 use Rattle.syntax.specs.Parse.{got, refused, whole}
 use Rattle.grammar.specs.Roles.{roles, Kept, Broken}
+
+-- each sign of a spelling has one role, and a term is within the limits exactly when all its signs keep them
+abbrev pub RolesFit : Type 0
+RolesFit = (s : List Placed) (t : Tree Name) → Stands t s [] → (length (roles 1 t) ≡ length s) × (Kept (roles 1 t) ↔ Within t)
 
 -- what is read is spelled, within the limits
 pub record Read (t : Tree Name) (s r : List Placed) : Type 0 where
