@@ -1,7 +1,9 @@
 // The calls that a host makes: text to network to walk, lists of calls performed on a walk, and listings.
 mod ends;
 mod listing;
+mod memory;
 mod performing;
+mod refusals;
 mod stages;
 mod texts;
 mod worked;
@@ -10,7 +12,10 @@ pub use ends::End;
 pub use ends::EndText;
 pub use listing::Listing;
 pub use listing::show_outcome;
+pub use memory::Memory;
+pub use memory::Reserve;
 pub use performing::perform;
+pub use refusals::RefusalText;
 pub use stages::Stage;
 pub use texts::show_text;
 pub use worked::known_outcomes;
