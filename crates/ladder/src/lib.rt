@@ -1,4 +1,4 @@
-// A machine of a lecturer's own: a ladder of a thousand rungs.
+// A machine of its own, outside the crate `machine`: a ladder of a thousand rungs.
 ghost use mathlib.Core.Bool.{true};
 ghost use mathlib.Core.Path.{_≡_};
 ghost use Prim.Native.Nat.{ℕ, _≤_};
