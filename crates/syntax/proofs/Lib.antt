@@ -1,3 +1,4 @@
+pub mod Examples
 pub mod Lexing
 pub mod Scanning
 pub mod TypeSteps
@@ -8,3 +9,4 @@ pub mod TermSteps
 pub mod ReadSteps
 pub mod LayoutSteps
 pub mod WholeSteps
+pub mod Agreement

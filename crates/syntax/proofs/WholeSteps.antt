@@ -25,6 +25,7 @@ use Rattle.syntax.specs.Steps.{skipped, TermHeld}
 use Rattle.syntax.specs.Reads.{orFault, named, reads}
 use Rattle.syntax.specs.Answer.{Spans, Accepted}
 use Rattle.syntax.proofs.Lexing.{firstSign, afterFirst, signs-from, signs-none}
+use Rattle.syntax.proofs.Agreement.{first-fault}
 use Rattle.syntax.proofs.LayoutSteps.{laid-spans, span-denotes}
 
 -- reading into empty memory
@@ -57,7 +58,7 @@ module _ (text : List ℕ) (short : length text ≤ 16384) where
       all = rw (e, signs-none (length text) rest k) refl
 
       pub name-fault : (f : Refusal) → visit (a .0) noNames .least ≡ Some f → reads text ≡ Err f
-      name-fault f n = within ∙ ap named all ∙ ap (orFault (a .0)) n
+      name-fault f n = within ∙ ap named all ∙ ap (orFault (a .0)) (sym (first-fault (a .0)) ∙ n)
 
       pub accepted : (subs : List Subterm) (cells : List TypeCell) (names : Names) (root : ℕ) → TermHeld 0 [] [] noNames subs cells names a root → visit (a .0) noNames .least ≡ None → Accepted text subs cells root
       accepted subs cells names root h n =
@@ -65,4 +66,4 @@ module _ (text : List ℕ) (short : length text ≤ 16384) where
           let lies = laid-spans t in
           let l : 0 ≤ length subs = omega arith in
           let spans : Spans subs cells 0 root t = rw (h .at, h .term, h .types) lies in
-          record { tree = t; is = within ∙ ap named all ∙ ap (orFault (a .0)) n; subterms = h .term; types = h .types; at = h .at; few = omega (arith, h .counted, h .few); fewTypes = omega (arith, h .signs, h .fewSigns); denotes = span-denotes t subs cells 0 root spans; spans = spans }
+          record { tree = t; is = within ∙ ap named all ∙ ap (orFault (a .0)) (sym (first-fault (a .0)) ∙ n); subterms = h .term; types = h .types; at = h .at; few = omega (arith, h .counted, h .few); fewTypes = omega (arith, h .signs, h .fewSigns); denotes = span-denotes t subs cells 0 root spans; spans = spans }

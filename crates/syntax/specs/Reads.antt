@@ -14,7 +14,6 @@ use Rattle.syntax.specs.Trees.{Name, Tree}
 use Rattle.syntax.specs.Signs.{signsOf}
 use Rattle.syntax.specs.Parse.{Out, got, refused, whole}
 use Rattle.syntax.specs.Names.{resolve, nameFault, fault}
-use Rattle.syntax.specs.Scopes.{noNames, visit}
 
 -- the faults of names are asked of a whole term only
 abbrev pub orFault : Tree Name → Option Refusal → Result (Tree ℕ) Refusal
@@ -22,7 +21,7 @@ orFault t None = Ok (resolve [] t)
 orFault t (Some f) = Err f
 
 abbrev pub named : Out (Tree Name) → Result (Tree ℕ) Refusal
-named (got t s) = orFault t (visit t noNames .least)
+named (got t s) = orFault t (nameFault t)
 named (refused f) = Err f
 
 abbrev pub reads : List ℕ → Result (Tree ℕ) Refusal
