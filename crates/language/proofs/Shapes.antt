@@ -1,14 +1,17 @@
 -- What a sub-term's shape says of the tree that it stands for, and what of it lasts as cells are added.
 use mathlib.Core.Path.{_≡_, refl, sym, ap, subst, _∙_}
 use mathlib.Core.List.{List, [], _∷_, _++_}
-use Prim.Native.Nat.{ℕ, _<_}
+use Prim.Native.Nat.{ℕ, suc, _+_, _<_}
+use native.Mathlib.Omega.{arith}
 use lib.ListN.{length, getD}
 use Rattle.calculus.specs.Types.{Ty}
+use Rattle.calculus.specs.Terms.{subterms}
 use Rattle.syntax.specs.declared.program.TypeCell.{TypeCell}
 use Rattle.syntax.specs.declared.program.Shape.{Shape}
 use Rattle.syntax.specs.declared.program.Shape.the-variants.{Variable, Number, Successor, Function, Application, Pair, Let, Iterator}
 use Rattle.syntax.specs.declared.program.Subterm.{Subterm}
-use Rattle.syntax.specs.Trees.{Binder, Tree, occ, num, succ, lam, app, pair, split, iter}
+use Rattle.syntax.specs.Trees.{Binder, Tree, occ, num, succ, lam, app, pair, split, iter, erase}
+use Rattle.syntax.specs.Answer.{Spans}
 use Rattle.syntax.specs.Program.{DenotesType, Denotes}
 use Rattle.language.proofs.Cells.{denotes-more}
 
@@ -105,6 +108,28 @@ module _ (subs : List Subterm) (cells : List TypeCell) (i : ℕ) where
   there (pair p t u) (j, k, h, l, m, d, f) = h .there
   there (split p v w t u) (j, k, h, l, m, d, f) = h .there
   there (iter p t u v) (j, k, q, h, l, m, n, d, f, g) = h .there
+
+-- a term's sub-terms stand one after another, also as cells are added
+pub spans-more : (t : Tree ℕ) (subs : List Subterm) (cells more : List TypeCell) (k i : ℕ) → Spans subs cells k i t → Spans subs (cells ++ more) k i t
+spans-more (occ p v) subs cells more k i h = h
+spans-more (num p n) subs cells more k i h = h
+spans-more (succ p t) subs cells more k i (j, h, e, d) = (j, h, e, spans-more t subs cells more k j d)
+spans-more (lam p v T t) subs cells more k i (c, j, h, e, y, d) = (c, j, h, e, denotes-more T cells more c y, spans-more t subs cells more k j d)
+spans-more (app p t u) subs cells more k i (j, l, h, e, d, f) = (j, l, h, e, spans-more t subs cells more k j d, spans-more u subs cells more (suc j) l f)
+spans-more (pair p t u) subs cells more k i (j, l, h, e, d, f) = (j, l, h, e, spans-more t subs cells more k j d, spans-more u subs cells more (suc j) l f)
+spans-more (split p v w t u) subs cells more k i (j, l, h, e, d, f) = (j, l, h, e, spans-more t subs cells more k j d, spans-more u subs cells more (suc j) l f)
+spans-more (iter p t u v) subs cells more k i (j, l, m, h, e, d, f, g) = (j, l, m, h, e, spans-more t subs cells more k j d, spans-more u subs cells more (suc j) l f, spans-more v subs cells more (suc l) m g)
+
+-- so that their numbers count them
+pub spans-count : (t : Tree ℕ) (subs : List Subterm) (cells : List TypeCell) (k i : ℕ) → Spans subs cells k i t → suc i ≡ k + subterms (erase t)
+spans-count (occ p v) subs cells k i h = omega (arith, h .1)
+spans-count (num p n) subs cells k i h = omega (arith, h .1)
+spans-count (succ p t) subs cells k i (j, h, e, d) = omega (arith, spans-count t subs cells k j d)
+spans-count (lam p v T t) subs cells k i (c, j, h, e, y, d) = omega (arith, spans-count t subs cells k j d)
+spans-count (app p t u) subs cells k i (j, l, h, e, d, f) = omega (arith, spans-count t subs cells k j d, spans-count u subs cells (suc j) l f)
+spans-count (pair p t u) subs cells k i (j, l, h, e, d, f) = omega (arith, spans-count t subs cells k j d, spans-count u subs cells (suc j) l f)
+spans-count (split p v w t u) subs cells k i (j, l, h, e, d, f) = omega (arith, spans-count t subs cells k j d, spans-count u subs cells (suc j) l f)
+spans-count (iter p t u v) subs cells k i (j, l, m, h, e, d, f, g) = omega (arith, spans-count t subs cells k j d, spans-count u subs cells (suc j) l f, spans-count v subs cells (suc l) m g)
 
 -- what a sub-term stands for lasts as cells are added
 pub tree-more : (t : Tree ℕ) (subs : List Subterm) (cells more : List TypeCell) (i : ℕ) → Denotes subs cells i t → Denotes subs (cells ++ more) i t

@@ -15,6 +15,7 @@ use Rattle.calculus.specs.Terms.{subterms, iterators}
 use Rattle.syntax.specs.Trees.{Tree, erase}
 use Rattle.syntax.specs.Program.{DenotesType, Denotes}
 use Rattle.syntax.specs.Names.{fault}
+use Rattle.syntax.specs.Answer.{Spans, Accepted}
 use Rattle.syntax.specs.declared.program.TypeCell.{TypeCell}
 use Rattle.syntax.specs.declared.program.TypeCell.the-variants as kind
 use Rattle.syntax.specs.declared.program.Subterm.{Subterm}
@@ -28,9 +29,9 @@ use Rattle.language.specs.Measures.{typeRoom, IsType}
 use Rattle.language.specs.Judgements.{Judgement, judgements, typeOf, nobody, sum, anIterator, Low}
 use Rattle.language.specs.Checks.{cellsOf, typingsOf, contextOf, Knows, Lists, Ready, Typed, Checks}
 use Rattle.language.specs.Counts.{Countable, Counts, Limited}
-use Rattle.language.specs.Accepts.{iterated, numbered, Known, Holds, Given, Concludes}
+use Rattle.language.specs.Accepts.{iterated, numbered, accepts, Known, Holds, Given, Concludes, Leaves}
 use Rattle.language.proofs.Cells.{reads}
-use Rattle.language.proofs.Shapes.{tree-more}
+use Rattle.language.proofs.Shapes.{tree-more, spans-more, spans-count, there}
 use Rattle.language.proofs.Walk.{trees-last, lists-length}
 use Rattle.language.proofs.Inferring.{judged-all, sound}
 use Rattle.language.proofs.Sums.{said, iterators-counted, successors-counted}
@@ -67,8 +68,8 @@ module _ (subs : List Subterm) (cells : List TypeCell) (root : ℕ) (m : Checker
       }
 
   -- refused before the program's own type is asked
-  pub whole-stop : (m′ : Checker) (z : Refusal) → Checks subs root m m′ (Err z) → (t : Tree ℕ) → Denotes subs cells root t → numbered t (infer nobody t) ≡ Err z
-  whole-stop m′ z h t d = ap (numbered t) (h t nobody (at-begin t d) knows-nobody)
+  pub whole-stop : (m′ : Checker) (z : Refusal) → Checks subs root m m′ (Err z) → (t : Tree ℕ) → Denotes subs cells root t → Spans subs cells 0 root t → numbered t (infer nobody t) ≡ Err z
+  whole-stop m′ z h t d sp = ap (numbered t) (h t nobody (at-begin t d) knows-nobody)
 
   module _ (m′ : Checker) (c : ℕ) (h : Checks subs root m m′ (Ok c)) where
     typed : (t : Tree ℕ) → Denotes subs cells root t → Typed subs t nobody m m′ c
@@ -101,8 +102,8 @@ module _ (subs : List Subterm) (cells : List TypeCell) (root : ℕ) (m : Checker
     other t (A ⇒ B) d f = refl
     other t (A ⊗ B) d f = refl
 
-    pub whole-other : (getD (cellsOf m′) c kind.N ≡ kind.N → ⊥) → (t : Tree ℕ) → Denotes subs cells root t → numbered t (infer nobody t) ≡ Err (fault NoNumber 0)
-    whole-other f t d = let w = typed t d in ap (numbered t) (w .infers) ∙ other t (typeOf nobody t) (w .denotes) f
+    pub whole-other : (getD (cellsOf m′) c kind.N ≡ kind.N → ⊥) → (t : Tree ℕ) → Denotes subs cells root t → Spans subs cells 0 root t → numbered t (infer nobody t) ≡ Err (fault NoNumber 0)
+    whole-other f t d sp = let w = typed t d in ap (numbered t) (w .infers) ∙ other t (typeOf nobody t) (w .denotes) f
 
     known : (t : Tree ℕ) (f : Facts) → Counts (judgements nobody t) f → Known t f
     known t f k =
@@ -117,15 +118,34 @@ module _ (subs : List Subterm) (cells : List TypeCell) (root : ℕ) (m : Checker
         }
 
     -- the program's type is N
-    pub whole-done : getD (cellsOf m′) c kind.N ≡ kind.N → (r : Result Facts Refusal) → ((js : List Judgement) → Lists subs (cellsOf m′) (typingsOf m′) js → Low js → Limited js r) → (t : Tree ℕ) → Denotes subs cells root t → Concludes subs root t (cellsOf m′) (typingsOf m′) r
-    whole-done q r limited t d = by r (limited (judgements nobody t) (all-lists t d) (low t d))
+    pub whole-done : getD (cellsOf m′) c kind.N ≡ kind.N → (r : Result Facts Refusal) → ((js : List Judgement) → Lists subs (cellsOf m′) (typingsOf m′) js → Low js → Limited js r) → (t : Tree ℕ) → Denotes subs cells root t → Spans subs cells 0 root t → Concludes subs root t (cellsOf m′) (typingsOf m′) r
+    whole-done q r limited t d sp = by r (limited (judgements nobody t) (all-lists t d) (low t d))
       where
         is : infer nobody t ≡ good N
         is = let w = typed t d in w .infers ∙ ap good (reads (typeOf nobody t) (cellsOf m′) c kind.N q (w .denotes))
+        spans-last : Spans subs (cellsOf m′) 0 root t
+        spans-last =
+            let g = typed t d .grown in
+            let begun : Spans subs (cellsOf m) 0 root t = subst (λ cs. Spans subs cs 0 root t) (sym (b .types)) (spans-more t subs cells (kind.N ∷ []) 0 root sp) in
+            subst (λ cs. Spans subs cs 0 root t) (sym (g .cells)) (spans-more t subs (cellsOf m) (g .more) 0 root begun)
         by : (r : Result Facts Refusal) → Limited (judgements nobody t) r → Concludes subs root t (cellsOf m′) (typingsOf m′) r
         by (Ok f) l =
             let few : leb (iterators (erase t)) 64 ≡ true = let n = iterators-counted nobody t in let le = l .1 in grind (arith, tells) in
-            (ap (numbered t) is ∙ ap (λ v. cond v (Ok t) (Err (fault ManyIterators 0))) few, record { denotes = trees-last (typed t d .grown) subs t root (at-begin t d); types = all-lists t d; facts = known t f (l .0) })
+            (ap (numbered t) is ∙ ap (λ v. cond v (Ok t) (Err (fault ManyIterators 0))) few, record { denotes = trees-last (typed t d .grown) subs t root (at-begin t d); spans = spans-last; types = all-lists t d; facts = known t f (l .0) })
         by (Err x) l =
             let many : leb (iterators (erase t)) 64 ≡ false = let n = iterators-counted nobody t in let lt = l .1 in grind (arith, tells) in
             ap (numbered t) is ∙ (ap (λ v. cond v (Ok t) (Err (fault ManyIterators 0))) many ∙ ap Err (sym (l .0)))
+
+-- a text that is read is in memory as the checker asks
+pub read-given : (bytes : List ℕ) (subs : List Subterm) (cells : List TypeCell) (root : ℕ) → Accepted bytes subs cells root → Given subs cells root
+read-given bytes subs cells root a =
+    record {
+      tree = a .tree;
+      denotes = a .denotes;
+      few = omega (arith, spans-count (a .tree) subs cells 0 root (a .spans), there subs cells root (a .tree) (a .denotes), a .few);
+      short = a .fewTypes
+    }
+
+-- what memory holds, as the program gives it
+pub given-out : (bytes : List ℕ) (subs subs′ : List Subterm) (cells cells′ : List TypeCell) (typings typings′ : List Typing) (root root′ : ℕ) (f f′ : Facts) → subs′ ≡ subs → cells′ ≡ cells → typings′ ≡ typings → root′ ≡ root → f′ ≡ f → Leaves bytes subs cells typings (Ok (root, f)) → (t : Tree ℕ) × (accepts bytes ≡ Ok t) × Holds subs′ cells′ typings′ root′ f′ t
+given-out bytes subs subs′ cells cells′ typings typings′ root root′ f f′ a b c d e h = rw (a, b, c, d, e) h

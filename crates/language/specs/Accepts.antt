@@ -17,6 +17,7 @@ use Rattle.syntax.specs.declared.program.Subterm.{Subterm}
 use Rattle.syntax.specs.Trees.{Tree, erase}
 use Rattle.syntax.specs.Program.{Denotes}
 use Rattle.syntax.specs.Names.{fault}
+use Rattle.syntax.specs.Answer.{Spans}
 use Rattle.syntax.specs.Reads.{reads}
 use Rattle.language.specs.declared.typing.Typing.{Typing}
 use Rattle.language.specs.declared.counts.Facts.{Facts}
@@ -55,9 +56,10 @@ pub record Known (t : Tree ℕ) (f : Facts) : Type 0 where
   pub height : f .height ≡ highest (judgements nobody t)
   pub weight : f .weight ≡ sum share (judgements nobody t)
 
--- memory holds the program: its sub-terms, the type of each, and its facts
+-- memory holds the program: its sub-terms one after another, the type of each, and its facts
 pub record Holds (subs : List Subterm) (cells : List TypeCell) (typings : List Typing) (root : ℕ) (f : Facts) (t : Tree ℕ) : Type 0 where
   pub denotes : Denotes subs cells root t
+  pub spans : Spans subs cells 0 root t
   pub types : Lists subs cells typings (judgements nobody t)
   pub facts : Known t f
 
@@ -77,3 +79,8 @@ Concludes subs root t cells typings (Err x) = numbered t (infer nobody t) ≡ Er
 abbrev pub Answers : List ℕ → Result Program Refusal → Type 0
 Answers text (Ok p) = (t : Tree ℕ) × (accepts text ≡ Ok t) × Holds (p .subterms .now) (p .types .now) (p .typings .now) (p .root) (p .facts) t
 Answers text (Err x) = accepts text ≡ Err x
+
+-- the same in the workspace's own memory, with the number of the whole
+abbrev pub Leaves : List ℕ → List Subterm → List TypeCell → List Typing → Result (ℕ × Facts) Refusal → Type 0
+Leaves text subs cells typings (Ok a) = (t : Tree ℕ) × (accepts text ≡ Ok t) × Holds subs cells typings (a .0) (a .1) t
+Leaves text subs cells typings (Err x) = accepts text ≡ Err x

@@ -8,6 +8,7 @@ ghost use Rattle.std.specs.Vec.{made};
 ghost use Rattle.syntax.specs.declared.program.TypeCell.the-variants.{N};
 ghost use Rattle.syntax.specs.Trees.{Tree};
 ghost use Rattle.syntax.specs.Program.{Denotes};
+ghost use Rattle.syntax.specs.Answer.{Spans};
 ghost use Rattle.language.specs.Judgements.{Judgement, Low};
 ghost use Rattle.language.specs.Checks.{cellsOf, typingsOf, contextOf, Lists};
 ghost use Rattle.language.specs.Counts.{Countable, Limited};
@@ -73,7 +74,7 @@ impl Checker {
     // Has the program types, is its own N, and are its iterators few?
     pub fn conclude(&mut self, subs: &[Subterm], cells: &[TypeCell], root: usize) -> Result<Facts, Refusal>
         requires { ⌜ Given (now subs) (now cells) root ⌝ }
-        ensures { λ r. ⌜ ((t : Tree ℕ) → Denotes (now (subs .entry)) (now (cells .entry)) root t → Concludes (now (subs .entry)) root t (cellsOf (now (self .exit))) (typingsOf (now (self .exit))) r) ⌝ }
+        ensures { λ r. ⌜ ((t : Tree ℕ) → Denotes (now (subs .entry)) (now (cells .entry)) root t → Spans (now (subs .entry)) (now (cells .entry)) 0 root t → Concludes (now (subs .entry)) root t (cellsOf (now (self .exit))) (typingsOf (now (self .exit))) r) ⌝ }
     {
         self.begin(cells);
         let cell = self.check(subs, root)?;

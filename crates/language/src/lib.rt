@@ -10,3 +10,4 @@ pub mod refusals;
 mod table;
 mod types;
 pub mod typing;
+pub mod workspace;
