@@ -1,12 +1,12 @@
 -- Contexts and the uses that they list.
 use mathlib.Core.Path.{_≡_, refl, sym, ap, subst, _∙_}
-use mathlib.Core.Bool.{Bool, true, false, cond}
+use mathlib.Core.Bool.{false, cond}
 use mathlib.Core.List.{List, [], _∷_, _++_}
-use mathlib.Core.Logic.{_⊎_, inl, inr}
-use Prim.Native.Nat.{ℕ, zero, suc, _+_}
+use mathlib.Core.Logic.{inl, inr}
+use Prim.Native.Nat.{ℕ, suc}
 use native.Mathlib.Omega.{arith}
 use lib.Dec.{eqb}
-use Rattle.std.proofs.shelf.Tests.{eq-eqb, eqb-true, cases-bool, both-ways}
+use Rattle.std.proofs.shelf.Tests.{eq-eqb, eqb-true, cases-bool}
 use Rattle.calculus.specs.Types.{Ty}
 use Rattle.calculus.specs.Terms.{Term, free, without}
 use Rattle.calculus.specs.Typing.{Ctx, Absent, none-left, not-this, Pick, here, there, Typed, ty-var, ty-num, ty-succ, ty-lam, ty-app, ty-pair, ty-split, ty-iter}
@@ -73,7 +73,7 @@ keys-free (ty-split {x = x} {y = y} {t = t} {Γ = Γ} {Δ₂ = Δ₂} d e p q) =
 keys-free (ty-iter {t = t} {u = u} {Γ = Γ} {Δ = Δ} {Θ = Θ} d e f) =
     keys-append Γ (Δ ++ Θ) ∙ (rw (keys-free d) (ap (λ l. free t ++ l) (keys-append Δ Θ ∙ (rw (keys-free e) (ap (λ l. free u ++ l) (keys-free f))))))
 
-pub count-without : (x y : ℕ) (l : List ℕ) → eqb x y ≡ false → count x (without y l) ≡ count x l
+count-without : (x y : ℕ) (l : List ℕ) → eqb x y ≡ false → count x (without y l) ≡ count x l
 count-without x y [] n = refl
 count-without x y (z ∷ l) n =
     elim (cases-bool (eqb y z)) [

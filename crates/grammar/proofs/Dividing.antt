@@ -1,15 +1,14 @@
 -- The signs of a text are its one division.
 use mathlib.Core.Path.{_≡_, refl, sym, ap, subst, _∙_}
-use mathlib.Core.Bool.{Bool, true, false, cond, _&&_, _||_}
+use mathlib.Core.Bool.{Bool, true, false}
 use mathlib.Core.List.{List, [], _∷_, _++_}
 use Prim.Native.Nat.{ℕ, suc, _+_, _-_, _≤_}
 use native.Mathlib.Omega.{arith}
-use lib.Dec.{eqb, leb}
 use lib.ListN.{length, length-append}
 use Rattle.std.proofs.shelf.Ways.{tells}
-use Rattle.std.proofs.shelf.Tests.{both-ways, cases-bool}
+use Rattle.std.proofs.shelf.Tests.{both-ways}
 use Rattle.syntax.specs.Signs.{Sign, word, digits, mark, Placed, blank, letter, digit, begins, withLetter, withDigit, withByte, lex, signsOf}
-use Rattle.grammar.specs.Dividing.{All, Run, Divided, at-end, at-blank, at-word, at-digits, at-mark, DividedExactly}
+use Rattle.grammar.specs.Dividing.{Run, Divided, at-end, at-blank, at-word, at-digits, at-mark, DividedExactly}
 
 -- the kinds of bytes exclude each other
 blank-letter : (b : ℕ) → blank b ≡ true → letter b ≡ false
@@ -29,10 +28,6 @@ digit-blank b h = grind (arith, tells)
 
 digit-letter : (b : ℕ) → digit b ≡ true → letter b ≡ false
 digit-letter b h = grind (arith, tells)
-
-run-begins : (kind : ℕ → Bool) (w s : List ℕ) → begins kind w ≡ true → begins kind (w ++ s) ≡ true
-run-begins kind [] s h = let z : _≡_ {A = ℕ} 0 1 = cc in absurd (omega arith)
-run-begins kind (b ∷ w) s h = h
 
 run-other : (kind other : ℕ → Bool) (w s : List ℕ) → ((b : ℕ) → kind b ≡ true → other b ≡ false) → begins kind w ≡ true → begins other (w ++ s) ≡ false
 run-other kind other [] s f h = let z : _≡_ {A = ℕ} 0 1 = cc in absurd (omega arith)

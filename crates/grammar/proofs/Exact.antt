@@ -1,9 +1,8 @@
 -- The theorems about signs, names and types, put together over a text.
 use mathlib.Core.Path.{_≡_, refl, sym, ap, subst, _∙_}
 use mathlib.Core.Bool.{Bool, true, false, cond}
-use mathlib.Core.List.{List, [], List·Memᴰ}
-use mathlib.Core.Logic.{_⊎_, inl, inr, _↔_}
-use Prim.Native.Nat.{ℕ, _≤_, _<_}
+use mathlib.Core.List.{List, []}
+use Prim.Native.Nat.{ℕ, _≤_}
 use native.Mathlib.Omega.{arith}
 use lib.Dec.{leb}
 use lib.ListN.{length}
@@ -13,30 +12,28 @@ use Rattle.std.specs.declared.option.Option.the-variants.{Some, None}
 use Rattle.std.specs.declared.result.Result.{Result}
 use Rattle.std.specs.declared.result.Result.the-variants.{Ok, Err}
 use Rattle.calculus.specs.Types.{Ty, N, _⇒_, _⊗_}
-use Rattle.calculus.specs.Terms.{free, iterators}
-use Rattle.calculus.specs.Typing.{Typed}
-use Rattle.syntax.specs.declared.refusal.Fault.{Fault}
+use Rattle.calculus.specs.Terms.{iterators}
 use Rattle.syntax.specs.declared.refusal.Fault.the-variants.{TooLong, NoNumber, ManyIterators}
 use Rattle.syntax.specs.declared.refusal.Refusal.{Refusal}
 use Rattle.syntax.specs.Trees.{Name, Tree, erase}
 use Rattle.syntax.specs.Signs.{signsOf}
 use Rattle.syntax.specs.Grammar.{Stands, Spells, Within}
 use Rattle.syntax.specs.Parse.{Out, got, refused, whole}
-use Rattle.syntax.specs.Names.{resolve, fault, nameFaults, nameFault}
+use Rattle.syntax.specs.Names.{resolve, fault, nameFault}
 use Rattle.syntax.specs.Reads.{orFault, named, reads}
 use Rattle.language.specs.Infer.{Checked, good, bad, infer}
 use Rattle.language.specs.Judgements.{nobody}
 use Rattle.language.specs.Accepts.{numbered, typed, accepts as answers}
 use Rattle.grammar.specs.Derivations.{Derives, given}
 use Rattle.grammar.specs.Reading.{Refused}
-use Rattle.grammar.specs.Naming.{WellNamed, Least}
-use Rattle.grammar.specs.Exactness.{Accepted, AcceptedExactly, One, AcceptedOne, Named, Rejected, too-long, unread, misnamed, untyped, no-number, many-iterators, RejectedExactly}
+use Rattle.grammar.specs.Naming.{WellNamed}
+use Rattle.grammar.specs.Exactness.{Accepted, AcceptedExactly, AcceptedOne, Named, Rejected, too-long, unread, misnamed, untyped, no-number, many-iterators, RejectedExactly}
 use Rattle.grammar.proofs.Contexts.{linear, keys-free}
 use Rattle.grammar.proofs.Unique.{unique}
 use Rattle.grammar.proofs.Inferred.{inferred, derived, first}
 use Rattle.grammar.proofs.Whole.{sound, complete, unambiguous, rightly}
-use Rattle.grammar.proofs.Naming.{right, leastly, no-least}
-use Rattle.grammar.proofs.Refusals.{refused-once, not-refused, least-once}
+use Rattle.grammar.proofs.Naming.{right, leastly}
+use Rattle.grammar.proofs.Refusals.{refused-once, not-refused}
 
 -- what is read of a text: why it is refused, or its term with well-used names
 data ReadAs (text : List ℕ) : Result (Tree ℕ) Refusal → Type 0 where
@@ -45,7 +42,7 @@ data ReadAs (text : List ℕ) : Result (Tree ℕ) Refusal → Type 0 where
 
 read-names : (text : List ℕ) (t : Tree Name) (o : Option Refusal) → nameFault t ≡ o → length text ≤ 16384 → Stands t (signsOf text) [] → Within t → ReadAs text (orFault t o)
 read-names text t None e l s w = names t (record { short = l; spelled = s; within = w; named = right text t s .0 e })
-read-names text t (Some f) e l s w = rejects (misnamed t l s w (leastly t f e))
+read-names text t (Some f) e l s w = rejects (misnamed t l s w (leastly text t f s .0 e))
 
 read-signs : (text : List ℕ) (o : Out (Tree Name)) → whole (length text) (signsOf text) ≡ o → length text ≤ 16384 → ReadAs text (named o)
 read-signs text (refused f) e l = rejects (unread l (rightly (length text) (signsOf text) f e))
@@ -119,10 +116,6 @@ out-refused : (text : List ℕ) (f : Refusal) (o : Out (Tree Name)) → whole (l
 out-refused text f (refused g) e r = ap Err (refused-once (rightly (length text) (signsOf text) g e) r)
 out-refused text f (got t q) e r = let s = sound (length text) (signsOf text) t q e in absurd (not-refused t r (s .spelled) (s .within))
 
-least-fault : (t : Tree Name) (f : Refusal) (o : Option Refusal) → nameFault t ≡ o → Least f (nameFaults t) → orFault t o ≡ Err f
-least-fault t f None e l = elim (subst (List·Memᴰ f) (no-least (nameFaults t) .0 e) (l .among)) [ ]
-least-fault t f (Some g) e l = ap Err (least-once g f (nameFaults t) (leastly t g e) l)
-
 no-number-answer : (t : Tree ℕ) (A : Ty) → (A ≡ N → ⊥) → numbered t (good A) ≡ Err (fault NoNumber 0)
 no-number-answer t N n = absurd (n refl)
 no-number-answer t (A ⇒ B) n = refl
@@ -133,7 +126,7 @@ rejected-answers text f (too-long l) = ap (λ b. typed (cond b (named (whole (le
 rejected-answers text f (unread l r) =
     ap (λ b. typed (cond b (named (whole (length text) (signsOf text))) (Err (fault TooLong 0)))) (le-leb (length text) 16384 l)
     ∙ ap typed (out-refused text f (whole (length text) (signsOf text)) refl r)
-rejected-answers text f (misnamed t l s w m) = ap typed (reads-named text t l s w ∙ least-fault t f (nameFault t) refl m)
+rejected-answers text f (misnamed t l s w m) = ap typed (reads-named text t l s w ∙ ap (orFault t) (leastly text t f s .1 m))
 rejected-answers text f (untyped {f = g} {p = p} t n i) = ap typed (reads-term text t n) ∙ ap (numbered (resolve [] t)) (first nobody (resolve [] t) g p (n .named .linear) .1 i)
 rejected-answers text f (no-number {A = A} t n d z) = ap typed (reads-term text t n) ∙ ap (numbered (resolve [] t)) (derived nobody (resolve [] t) [] A tt d) ∙ no-number-answer (resolve [] t) A z
 rejected-answers text f (many-iterators t n d l) =

@@ -1,7 +1,7 @@
 -- Inference against the rules: a type, or the first fault.
 use mathlib.Core.Path.{_≡_, refl, sym, ap, subst, _∙_}
 use mathlib.Core.Logic.{_⊎_, inl, inr}
-use Prim.Native.Nat.{ℕ, _≤_, _<_}
+use Prim.Native.Nat.{ℕ}
 use native.Mathlib.Omega.{arith}
 use Rattle.std.proofs.shelf.Tests.{cases-lt}
 use Rattle.calculus.specs.Types.{Ty, N, _⇒_, _⊗_, height}
@@ -11,11 +11,11 @@ use Rattle.syntax.specs.declared.refusal.Fault.{Fault}
 use Rattle.syntax.specs.declared.refusal.Fault.the-variants.{IllTyped, HighType}
 use Rattle.language.specs.Infer.{Checked, good, bad, then, within, Env, put, splitRule, infer}
 use Rattle.grammar.specs.Uses.{Linear}
-use Rattle.grammar.specs.Derivations.{Derives, given, Has, Agrees}
+use Rattle.grammar.specs.Derivations.{Has}
 use Rattle.grammar.specs.Faults.{Typable, Parts, First, no-type, too-high, no-pair, in-succ, in-lam, in-app₁, in-app₂, in-pair₁, in-pair₂, in-split₁, in-split₂, in-iter₁, in-iter₂, in-iter₃}
 use Rattle.grammar.specs.Typings.{InferredDerived, DerivedInferred, DerivedLinear, FirstFault}
 use Rattle.grammar.proofs.Contexts.{given-agrees, linear}
-use Rattle.grammar.proofs.Rules.{within-low, within-high, complete, has-infers, forms, Formed, Node, no-derivation, node}
+use Rattle.grammar.proofs.Rules.{within-high, complete, has-infers, forms, Node, no-derivation, node}
 
 -- the first fault, and that it is the one inferred
 abbrev Refused : Env → Tree ℕ → Type 0

@@ -9,9 +9,11 @@ mod Limits
 mod Whole
 mod Places
 mod Names
-mod Naming
 mod Exact
 mod Known
 mod Dividing
 mod Refusals
 mod Verdicts
+mod Owners
+mod NameFaults
+mod Naming

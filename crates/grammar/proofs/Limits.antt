@@ -1,18 +1,18 @@
 -- The limits, as the reader asks them sign by sign, and as they stand over all the signs of a term.
-use mathlib.Core.Path.{_≡_, refl, sym, ap, subst, _∙_}
+use mathlib.Core.Path.{_≡_, refl, sym, subst, _∙_}
 use mathlib.Core.Bool.{Bool, true, false, cond, not, _&&_, _||_}
 use mathlib.Core.List.{List, [], _∷_, _++_}
 use mathlib.Core.Logic.{_⊎_, inl, inr}
-use Prim.Native.Nat.{ℕ, suc, _+_, _≤_, _<_, max}
+use Prim.Native.Nat.{ℕ, suc, _+_, _≤_, max}
 use native.Mathlib.Omega.{arith}
 use lib.Dec.{leb, ltb}
-use Rattle.std.proofs.shelf.Tests.{le-leb, lt-leb, leb-true, leb-false, ltb-true, lt-ltb, and-parts, and-from, cases-bool, both-ways}
+use Rattle.std.proofs.shelf.Tests.{le-leb, leb-true, leb-false, ltb-true, lt-ltb, and-parts, and-from, both-ways}
 use Rattle.calculus.specs.Types.{Ty, N, _⇒_, _⊗_, height, signs}
 use Rattle.syntax.specs.declared.refusal.Fault.{Fault}
 use Rattle.syntax.specs.declared.refusal.Fault.the-variants.{LargeNumber, PassedLimit}
 use Rattle.syntax.specs.Trees.{Tree, occ, num, succ, lam, app, pair, split, iter}
 use Rattle.syntax.specs.Grammar.{size, typeSigns, depth, typeDepth, largest as largestNumber, Within}
-use Rattle.grammar.specs.Roles.{Role, begins, number, base, bracket, connective, plain, typeRoles, roles, counted, greatest, largest, Kept, Broken, too-large, passed}
+use Rattle.grammar.specs.Roles.{Role, begins, bracket, connective, plain, typeRoles, roles, counted, greatest, largest, Kept, Broken, too-large, passed}
 use Rattle.grammar.proofs.Runs.{Checks, passes, refuses, Leads}
 use Rattle.grammar.proofs.Simulation.{room, limits}
 

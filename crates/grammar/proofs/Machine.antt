@@ -1,28 +1,23 @@
 -- Reading as a machine that predicts by the next sign: a stack of what is still to come, from the left.
 use mathlib.Core.Path.{_≡_, refl, sym, ap, subst, _∙_}
-use mathlib.Core.Bool.{Bool, true, false, cond, not, _&&_, _||_}
+use mathlib.Core.Bool.{Bool, true, false, cond, not, _&&_}
 use mathlib.Core.List.{List, [], _∷_, _++_, append-assoc, append-nil}
-use mathlib.Core.Logic.{_⊎_, inl, inr}
 use mathlib.Core.Option.{Option, none, some}
 use Prim.Native.Nat.{ℕ, suc}
 use native.Mathlib.Omega.{arith}
 use lib.Chars.{codes}
-use lib.Dec.{eqb, leb, ltb}
+use lib.Dec.{eqb, leb}
 use lib.ListN.{length}
-use Rattle.std.proofs.shelf.Tests.{eq-eqb, eqb-true, and-parts, not-true, cases-bool}
+use Rattle.std.proofs.shelf.Tests.{eq-eqb, eqb-true, and-parts, not-true}
 use Rattle.std.proofs.shelf.Equals.{sameBytes-decides}
 use Rattle.std.specs.shelf.Text.{sameBytes}
 use Rattle.calculus.specs.Types.{Ty, N, _⇒_, _⊗_}
-use Rattle.syntax.specs.declared.refusal.Fault.{Fault}
-use Rattle.syntax.specs.declared.refusal.Fault.the-variants.{WrongSign, LargeNumber, PassedLimit}
-use Rattle.syntax.specs.declared.refusal.Refusal.{Refusal}
 use Rattle.syntax.specs.declared.signs.Joint.{Joint}
 use Rattle.syntax.specs.declared.signs.Joint.the-variants.{Arrow, Product}
 use Rattle.syntax.specs.Trees.{Name, Binder, Tree, occ, num, succ, lam, app, pair, split, iter}
 use Rattle.syntax.specs.Signs.{Sign, word, digits, mark, Placed, isLet, isIn, isIter, isName, isNumber, numberOf}
-use Rattle.syntax.specs.Grammar.{At, Next, Binds, StandsType, Stands}
+use Rattle.syntax.specs.Grammar.{Next, Binds, StandsType, Stands}
 use Rattle.syntax.specs.Parse.{isMark, isWordIn, join}
-use Rattle.syntax.specs.Names.{fault}
 use Rattle.grammar.specs.Roles.{Role, begins, number, base, bracket, connective, plain, typeRoles, roles}
 
 -- what may be to come: a term or a type so deep, a binder, > or *, the word in, and a mark

@@ -1,9 +1,9 @@
--- Names against binders' places: what a name means where it occurs, and how often a binder is used.
+-- Names against binders' places: what a name means where it occurs.
 use mathlib.Core.Path.{_≡_, refl, sym, ap, subst, _∙_}
 use mathlib.Core.Bool.{Bool, true, false, cond, _||_}
 use mathlib.Core.List.{List, [], _∷_, _++_, append-assoc}
 use mathlib.Core.Logic.{_⊎_, inl, inr}
-use Prim.Native.Nat.{ℕ, suc, _+_, _≤_, _<_}
+use Prim.Native.Nat.{ℕ, suc, _≤_, _<_}
 use native.Mathlib.Omega.{arith}
 use lib.Dec.{eqb}
 use lib.ListN.{length}
@@ -13,8 +13,6 @@ use Rattle.std.specs.shelf.Text.{sameBytes}
 use Rattle.calculus.specs.Terms.{free, without}
 use Rattle.syntax.specs.Trees.{Name, Binder, Tree, occ, num, succ, lam, app, pair, split, iter, erase}
 use Rattle.syntax.specs.Names.{binderOf, resolve, occurrences}
-use Rattle.grammar.specs.Uses.{count}
-use Rattle.grammar.proofs.Contexts.{count-without}
 use Rattle.grammar.proofs.Places.{Ordered}
 
 -- equal names
@@ -42,7 +40,7 @@ abbrev pub except : Name → List Use → List Use
 except w [] = []
 except w (o ∷ l) = cond (sameBytes w (o .1)) (except w l) (o ∷ except w l)
 
-abbrev places : Name → List Use → List ℕ
+abbrev pub places : Name → List Use → List ℕ
 places w [] = []
 places w (o ∷ l) = cond (sameBytes w (o .1)) (o .0 ∷ places w l) (places w l)
 
@@ -74,7 +72,7 @@ places-append w (o ∷ k) l = by (sameBytes w (o .1)) (places-append w k l)
     by true h = ap (λ z. o .0 ∷ z) h
     by false h = h
 
-places-except : (w v : Name) (l : List Use) → places w (except v l) ≡ cond (sameBytes w v) [] (places w l)
+pub places-except : (w v : Name) (l : List Use) → places w (except v l) ≡ cond (sameBytes w v) [] (places w l)
 places-except w v [] = by (sameBytes w v)
   where
     by : (b : Bool) → _≡_ {A = List ℕ} [] (cond b [] [])
@@ -89,7 +87,7 @@ places-except w v (o ∷ l) = by (sameBytes v (o .1)) refl (sameBytes w v) refl 
     by false e false f h = ap (λ z. cond (sameBytes w (o .1)) (o .0 ∷ z) z) h
 
 -- the definition of free occurrences, by uses
-occurs : (w : Name) (t : Tree Name) → occurrences w t ≡ places w (loose t)
+pub occurs : (w : Name) (t : Tree Name) → occurrences w t ≡ places w (loose t)
 occurs w (occ p v) = refl
 occurs w (num p n) = refl
 occurs w (succ p t) = occurs w t
@@ -108,7 +106,7 @@ occurs w (iter p t u v) =
     rw (occurs w t, occurs w u, occurs w v) (sym (places-append w (loose t) (loose u ++ loose v) ∙ ap (λ z. places w (loose t) ++ z) (places-append w (loose u) (loose v))))
 
 -- the innermost of the binders in force
-innermost : (σ : List Binder) (x : Binder) (w : Name) (p : ℕ) → binderOf w (σ ++ (x ∷ [])) p ≡ cond (sameBytes w (x .name)) (x .place) (binderOf w σ p)
+pub innermost : (σ : List Binder) (x : Binder) (w : Name) (p : ℕ) → binderOf w (σ ++ (x ∷ [])) p ≡ cond (sameBytes w (x .name)) (x .place) (binderOf w σ p)
 innermost [] x w p = refl
 innermost (y ∷ σ) x w p = innermost σ x w (cond (sameBytes w (y .name)) (y .place) p)
 
@@ -117,7 +115,7 @@ abbrev pub Below : ℕ → List Binder → Type 0
 Below lo [] = Unit {0}
 Below lo (x ∷ σ) = (x .place < lo) × Below lo σ
 
-abbrev From : ℕ → List Use → Type 0
+abbrev pub From : ℕ → List Use → Type 0
 From lo [] = Unit {0}
 From lo (o ∷ l) = (lo ≤ o .0) × From lo l
 
@@ -129,11 +127,11 @@ from-append : (lo : ℕ) (k l : List Use) → From lo k → From lo l → From l
 from-append lo [] l x y = y
 from-append lo (o ∷ k) l x y = (x .0, from-append lo k l (x .1) y)
 
-from-lower : (a b : ℕ) (l : List Use) → b ≤ a → From a l → From b l
+pub from-lower : (a b : ℕ) (l : List Use) → b ≤ a → From a l → From b l
 from-lower a b [] k h = tt
 from-lower a b (o ∷ l) k h = (omega (arith, h .0), from-lower a b l k (h .1))
 
-from-except : (lo : ℕ) (w : Name) (l : List Use) → From lo l → From lo (except w l)
+pub from-except : (lo : ℕ) (w : Name) (l : List Use) → From lo l → From lo (except w l)
 from-except lo w [] h = tt
 from-except lo w (o ∷ l) h = by (sameBytes w (o .1)) (from-except lo w l (h .1))
   where
@@ -141,7 +139,7 @@ from-except lo w (o ∷ l) h = by (sameBytes w (o .1)) (from-except lo w l (h .1
     by true k = k
     by false k = (h .0, k)
 
-loose-from : (t : Tree Name) (lo : ℕ) → Ordered lo t → From lo (loose t)
+pub loose-from : (t : Tree Name) (lo : ℕ) → Ordered lo t → From lo (loose t)
 loose-from (occ p w) lo h = (h, tt)
 loose-from (num p n) lo h = tt
 loose-from (succ p t) lo h = loose-from t lo h
@@ -164,7 +162,7 @@ elsewhere lo (x ∷ σ) w p h = by (sameBytes w (x .name)) (elsewhere lo σ w (x
     by false k m = m
 
 -- a use that is not the binder's is none of it
-not-its : (lo : ℕ) (σ : List Binder) (w : Name) (p b : ℕ) → Below lo σ → lo ≤ b → b < p → eqb b (binderOf w σ p) ≡ false
+pub not-its : (lo : ℕ) (σ : List Binder) (w : Name) (p b : ℕ) → Below lo σ → lo ≤ b → b < p → eqb b (binderOf w σ p) ≡ false
 not-its lo σ w p b h l k = ne-eqb b (binderOf w σ p) (λ e. elim (elsewhere lo σ w p h) [ inl m ↦ omega arith | inr m ↦ omega arith ])
 
 -- a binder's scope left: its uses go, and the others are as outside
@@ -176,16 +174,7 @@ leave lo σ x (o ∷ l) h k f = by (sameBytes (x .name) (o .1)) refl (leave lo �
     by true e ih = rw (innermost σ x (o .1) (o .0), same-turned (o .1) (x .name), e, eq-eqb (x .place) (x .place) refl) ih
     by false e ih = rw (innermost σ x (o .1) (o .0), same-turned (o .1) (x .name), e, not-its lo σ (o .1) (o .0) (x .place) h k (f .0)) (ap (λ z. binderOf (o .1) σ (o .0) ∷ z) ih)
 
--- the uses of a binder are those of its name
-its : (lo : ℕ) (σ : List Binder) (x : Binder) (l : List Use) → Below lo σ → lo ≤ x .place → From (suc (x .place)) l → count (x .place) (resolved (σ ++ (x ∷ [])) l) ≡ length (places (x .name) l)
-its lo σ x [] h k f = refl
-its lo σ x (o ∷ l) h k f = by (sameBytes (x .name) (o .1)) refl (its lo σ x l h k (f .1))
-  where
-    by : (b : Bool) → sameBytes (x .name) (o .1) ≡ b → count (x .place) (resolved (σ ++ (x ∷ [])) l) ≡ length (places (x .name) l) → count (x .place) (binderOf (o .1) (σ ++ (x ∷ [])) (o .0) ∷ resolved (σ ++ (x ∷ [])) l) ≡ length (cond b (o .0 ∷ places (x .name) l) (places (x .name) l))
-    by true e ih = rw (innermost σ x (o .1) (o .0), same-turned (o .1) (x .name), e, eq-eqb (x .place) (x .place) refl) (ap suc ih)
-    by false e ih = rw (innermost σ x (o .1) (o .0), same-turned (o .1) (x .name), e, not-its lo σ (o .1) (o .0) (x .place) h k (f .0)) ih
-
-two-more : (σ : List Binder) (x y : Binder) → σ ++ (x ∷ y ∷ []) ≡ (σ ++ (x ∷ [])) ++ (y ∷ [])
+pub two-more : (σ : List Binder) (x y : Binder) → σ ++ (x ∷ y ∷ []) ≡ (σ ++ (x ∷ [])) ++ (y ∷ [])
 two-more σ x y = sym (append-assoc σ (x ∷ []) (y ∷ []))
 
 pub below-two : (lo : ℕ) (σ : List Binder) (x y : Binder) → Below lo σ → lo ≤ x .place → x .place < y .place → Below (suc (y .place)) (σ ++ (x ∷ y ∷ []))
@@ -212,26 +201,3 @@ uses (split p x y t u) σ lo h k =
     rw (uses t σ lo h (k .2), d) (sym (resolved-append σ (loose t) (except (x .name) (except (y .name) (loose u)))))
 uses (iter p t u v) σ lo h k =
     rw (uses t σ lo h (k .0), uses u σ lo h (k .1), uses v σ lo h (k .2)) (sym (resolved-append σ (loose t) (loose u ++ loose v) ∙ ap (λ z. resolved σ (loose t) ++ z) (resolved-append σ (loose u) (loose v))))
-
--- how often a binder is used, by its name
-pub lam-count : (σ : List Binder) (lo : ℕ) (x : Binder) (t : Tree Name) → Below lo σ → lo ≤ x .place → Ordered (suc (x .place)) t → count (x .place) (free (erase (resolve (σ ++ (x ∷ [])) t))) ≡ length (occurrences (x .name) t)
-lam-count σ lo x t h l k =
-    ap (count (x .place)) (uses t (σ ++ (x ∷ [])) (suc (x .place)) (below-more lo (suc (x .place)) σ x h (omega arith) (omega arith)) k) ∙ its lo σ x (loose t) h l (loose-from t (suc (x .place)) k) ∙ ap length (sym (occurs (x .name) t))
-
-pub second-count : (σ : List Binder) (lo : ℕ) (x y : Binder) (u : Tree Name) → Below lo σ → lo ≤ x .place → x .place < y .place → Ordered (suc (y .place)) u → count (y .place) (free (erase (resolve (σ ++ (x ∷ y ∷ [])) u))) ≡ length (occurrences (y .name) u)
-second-count σ lo x y u h l m k =
-    ap (λ ρ. count (y .place) (free (erase (resolve ρ u)))) (two-more σ x y) ∙ lam-count (σ ++ (x ∷ [])) (suc (x .place)) y u (below-more lo (suc (x .place)) σ x h (omega arith) (omega arith)) m k
-
-pub first-count : (σ : List Binder) (lo : ℕ) (x y : Binder) (u : Tree Name) → Below lo σ → lo ≤ x .place → x .place < y .place → Ordered (suc (y .place)) u → count (x .place) (free (erase (resolve (σ ++ (x ∷ y ∷ [])) u))) ≡ length (cond (sameBytes (x .name) (y .name)) [] (occurrences (x .name) u))
-first-count σ lo x y u h l m k =
-    let τ = σ ++ (x ∷ []) in
-    let b = below-more lo (suc (x .place)) σ x h (omega arith) (omega arith) in
-    let n = below-more (suc (x .place)) (suc (y .place)) τ y b (omega arith) (omega arith) in
-    let f = loose-from u (suc (y .place)) k in
-    let apart : eqb (x .place) (y .place) ≡ false = ne-eqb (x .place) (y .place) (λ e. omega arith) in
-    ap (λ ρ. count (x .place) (free (erase (resolve ρ u)))) (two-more σ x y)
-    ∙ ap (count (x .place)) (uses u (τ ++ (y ∷ [])) (suc (y .place)) n k)
-    ∙ sym (count-without (x .place) (y .place) (resolved (τ ++ (y ∷ [])) (loose u)) apart)
-    ∙ ap (count (x .place)) (leave (suc (x .place)) τ y (loose u) b m f)
-    ∙ its lo σ x (except (y .name) (loose u)) h l (from-except (suc (x .place)) (y .name) (loose u) (from-lower (suc (y .place)) (suc (x .place)) (loose u) (omega arith) f))
-    ∙ ap length (places-except (x .name) (y .name) (loose u) ∙ ap (cond (sameBytes (x .name) (y .name)) []) (sym (occurs (x .name) u)))

@@ -1,28 +1,29 @@
 -- The faults of names: none exactly where names are used linearly, and the least one reported.
 use mathlib.Core.Path.{_≡_, refl, sym, ap, subst, _∙_}
-use mathlib.Core.Bool.{Bool, true, false, cond, _&&_, _||_}
-use mathlib.Core.List.{List, [], _∷_, _++_, map, List·Memᴰ, List·Memᴰ·head, List·Memᴰ·tail, List·Memᴰ·cases-cons}
+use mathlib.Core.Bool.{Bool, true, false, cond}
+use mathlib.Core.List.{List, [], _∷_, _++_, List·Memᴰ, List·Memᴰ·head, List·Memᴰ·tail, List·Memᴰ·cases-cons}
 use mathlib.Core.Logic.{_⊎_, inl, inr, _↔_}
 use Prim.Native.Nat.{ℕ, suc, _≤_, _<_}
 use native.Mathlib.Omega.{arith}
-use lib.Dec.{eqb, ltb}
+use lib.Dec.{eqb}
 use lib.ListN.{length}
 use Rattle.std.proofs.shelf.Tests.{ne-eqb, or-parts, or-from, cases-bool, both-ways}
 use Rattle.std.proofs.shelf.Ways.{tells}
-use Rattle.std.proofs.shelf.Equals.{sameBytes-decides}
 use Rattle.std.specs.shelf.Text.{sameBytes}
 use Rattle.std.specs.declared.option.Option.{Option}
 use Rattle.std.specs.declared.option.Option.the-variants.{Some, None}
 use Rattle.calculus.specs.Terms.{free}
 use Rattle.syntax.specs.declared.refusal.Fault.{Fault}
-use Rattle.syntax.specs.declared.refusal.Fault.the-variants.{Unbound, BoundTwice, UsedTwice, Unused}
+use Rattle.syntax.specs.declared.refusal.Fault.the-variants.{TooLong, WrongSign, LargeNumber, PassedLimit, Unbound, BoundTwice, UsedTwice, Unused, IllTyped, NoNumber, HighType, FewCells, ManyIterators}
 use Rattle.syntax.specs.declared.refusal.Refusal.{Refusal}
 use Rattle.syntax.specs.Trees.{Name, Binder, Tree, occ, num, succ, lam, app, pair, split, iter, erase}
 use Rattle.syntax.specs.Names.{resolve, among, fault, unbound, binders, boundTwice, occurrences, usedOnce, misused, nameFaults, number, before, sooner, least, nameFault}
 use Rattle.grammar.specs.Uses.{Linear}
-use Rattle.grammar.specs.Naming.{Unlike, Distinct, WellNamed, NamesRight, Least, NamesLeast}
-use Rattle.grammar.proofs.Places.{Ordered, spelled-ordered}
-use Rattle.grammar.proofs.Names.{Use, except, loose, resolved, Below, below-more, below-two, same-turned, same-is, same-self, uses, lam-count, first-count, second-count}
+use Rattle.grammar.specs.Naming.{Unlike, Distinct, NamesRight, NamesLeast}
+use Rattle.grammar.proofs.Places.{Ordered, spans-ordered, spelled-spans}
+use Rattle.grammar.proofs.Names.{Use, except, loose, resolved, Below, below-more, below-two, same-turned, same-is, same-self, uses}
+use Rattle.grammar.proofs.Owners.{lam-count, first-count, second-count}
+use Rattle.grammar.proofs.NameFaults.{listed}
 
 -- lists that are empty
 none : {A : Type 0} (k l : List A) → (k ++ l ≡ []) ↔ ((k ≡ []) × (l ≡ []))
@@ -170,12 +171,12 @@ sooner-some : (f : Refusal) (o : Option Refusal) → sooner f o ≡ None → ⊥
 sooner-some f None h = let z : _≡_ {A = ℕ} 0 1 = cc in omega arith
 sooner-some f (Some g) h = let z : _≡_ {A = ℕ} 0 1 = cc in omega arith
 
-pub no-least : (fs : List Refusal) → (least fs ≡ None) ↔ (fs ≡ [])
+no-least : (fs : List Refusal) → (least fs ≡ None) ↔ (fs ≡ [])
 no-least [] = (λ h. refl, λ h. refl)
 no-least (f ∷ fs) = (λ h. absurd (sooner-some f (least fs) h), λ h. let z : _≡_ {A = ℕ} 0 1 = cc in absurd (omega arith))
 
 -- a fault that does not go before another, by its place and number
-pub behind : (g f : Refusal) → before g f ≡ false → (f .place < g .place) ⊎ ((f .place ≡ g .place) × (number (f .fault) ≤ number (g .fault)))
+behind : (g f : Refusal) → before g f ≡ false → (f .place < g .place) ⊎ ((f .place ≡ g .place) × (number (f .fault) ≤ number (g .fault)))
 behind g f h = grind (arith, tells)
 
 not-before : (g f : Refusal) → (f .place < g .place) ⊎ ((f .place ≡ g .place) × (number (f .fault) ≤ number (g .fault))) → before g f ≡ false
@@ -183,7 +184,8 @@ not-before g f h = grind (arith, tells)
 
 pub right : NamesRight
 right text t s =
-    let o = spelled-ordered text t s in
+    let a = spelled-spans text t s in
+    let o = spans-ordered t 0 (a .0) (a .1) in
     let l = linear t [] 0 tt o in
     let c = closed t o in
     let b = bound-once (binders t) [] in
@@ -194,30 +196,75 @@ right text t s =
       λ h. n .1 (e .1 (c .1 (h .closed), d .1 (b .1 (h .once, all-clear (binders t)), l .1 (h .linear)))),
     )
 
+-- the least of listed faults
+record LeastOf (f : Refusal) (fs : List Refusal) : Type 0 where
+  pub among : List·Memᴰ f fs
+  pub first : (g : Refusal) → List·Memᴰ g fs → before g f ≡ false
+
 first-of : (g h k : Refusal) → before g h ≡ true → before k h ≡ false → before k g ≡ false
 first-of g h k x y = not-before k g (grind (arith, tells, behind k h y))
 
 not-self : (f : Refusal) → before f f ≡ false
 not-self f = not-before f f (inr (refl, omega arith))
 
-sooner-least : (g : Refusal) (fs : List Refusal) (f : Refusal) (o : Option Refusal) → least fs ≡ o → ((h : Refusal) → o ≡ Some h → Least h fs) → sooner g o ≡ Some f → Least f (g ∷ fs)
+sooner-least : (g : Refusal) (fs : List Refusal) (f : Refusal) (o : Option Refusal) → least fs ≡ o → ((h : Refusal) → o ≡ Some h → LeastOf h fs) → sooner g o ≡ Some f → LeastOf f (g ∷ fs)
 sooner-least g fs f None e i h =
     let s : g ≡ f = cc in
     let n = no-least fs .0 e in
-    subst (λ z. Least z (g ∷ fs)) s (record { among = List·Memᴰ·head refl; first = λ k m. elim (List·Memᴰ·cases-cons m) [ inl w ↦ rw w (not-self g) | inr w ↦ elim (subst (List·Memᴰ k) n w) [ ] ] })
+    subst (λ z. LeastOf z (g ∷ fs)) s (record { among = List·Memᴰ·head refl; first = λ k m. elim (List·Memᴰ·cases-cons m) [ inl w ↦ rw w (not-self g) | inr w ↦ elim (subst (List·Memᴰ k) n w) [ ] ] })
 sooner-least g fs f (Some h) e i q = by (before g h) refl q
   where
-    by : (b : Bool) → before g h ≡ b → Some (cond b g h) ≡ Some f → Least f (g ∷ fs)
+    by : (b : Bool) → before g h ≡ b → Some (cond b g h) ≡ Some f → LeastOf f (g ∷ fs)
     by true x y =
         let l = i h refl in
-        subst (λ z. Least z (g ∷ fs)) (let s : g ≡ f = cc in s) (record { among = List·Memᴰ·head refl; first = λ k m. elim (List·Memᴰ·cases-cons m) [ inl w ↦ rw w (not-self g) | inr w ↦ first-of g h k x (l .first k w) ] })
+        subst (λ z. LeastOf z (g ∷ fs)) (let s : g ≡ f = cc in s) (record { among = List·Memᴰ·head refl; first = λ k m. elim (List·Memᴰ·cases-cons m) [ inl w ↦ rw w (not-self g) | inr w ↦ first-of g h k x (l .first k w) ] })
     by false x y =
         let l = i h refl in
-        subst (λ z. Least z (g ∷ fs)) (let s : h ≡ f = cc in s) (record { among = List·Memᴰ·tail (l .among); first = λ k m. elim (List·Memᴰ·cases-cons m) [ inl w ↦ rw w x | inr w ↦ l .first k w ] })
+        subst (λ z. LeastOf z (g ∷ fs)) (let s : h ≡ f = cc in s) (record { among = List·Memᴰ·tail (l .among); first = λ k m. elim (List·Memᴰ·cases-cons m) [ inl w ↦ rw w x | inr w ↦ l .first k w ] })
 
-least-of : (fs : List Refusal) (f : Refusal) → least fs ≡ Some f → Least f fs
+least-of : (fs : List Refusal) (f : Refusal) → least fs ≡ Some f → LeastOf f fs
 least-of [] f h = let z : _≡_ {A = ℕ} 0 1 = cc in absurd (omega arith)
 least-of (g ∷ fs) f h = sooner-least g fs f (least fs) refl (least-of fs) h
 
+-- a fault by its number
+abbrev byNumber : ℕ → Fault
+byNumber n = cond (eqb n 1) TooLong (cond (eqb n 2) WrongSign (cond (eqb n 3) LargeNumber (cond (eqb n 4) PassedLimit (cond (eqb n 5) Unbound (cond (eqb n 6) BoundTwice (cond (eqb n 7) UsedTwice (cond (eqb n 8) Unused (cond (eqb n 9) IllTyped (cond (eqb n 10) NoNumber (cond (eqb n 11) HighType (cond (eqb n 12) FewCells ManyIterators)))))))))))
+
+numbered : (f : Fault) → byNumber (number f) ≡ f
+numbered TooLong = refl
+numbered WrongSign = refl
+numbered LargeNumber = refl
+numbered PassedLimit = refl
+numbered Unbound = refl
+numbered BoundTwice = refl
+numbered UsedTwice = refl
+numbered Unused = refl
+numbered IllTyped = refl
+numbered NoNumber = refl
+numbered HighType = refl
+numbered FewCells = refl
+numbered ManyIterators = refl
+
+same-refusal : (f g : Refusal) → f .fault ≡ g .fault → f .place ≡ g .place → f ≡ g
+same-refusal f g s p = ap (λ z. record { fault = z; place = f .place }) s ∙ ap (λ z. record { fault = g .fault; place = z }) p
+
+least-once : (f g : Refusal) (fs : List Refusal) → LeastOf f fs → LeastOf g fs → f ≡ g
+least-once f g fs x y =
+    let a = behind g f (x .first g (y .among)) in
+    let b = behind f g (y .first f (x .among)) in
+    let p : f .place ≡ g .place = grind (arith, a, b) in
+    let n : number (f .fault) ≡ number (g .fault) = grind (arith, a, b) in
+    same-refusal f g (sym (numbered (f .fault)) ∙ ap byNumber n ∙ numbered (g .fault)) p
+
+-- and that it is the one found
+of-least : (fs : List Refusal) (f : Refusal) (o : Option Refusal) → least fs ≡ o → LeastOf f fs → o ≡ Some f
+of-least fs f None e l = elim (subst (List·Memᴰ f) (no-least fs .0 e) (l .among)) [ ]
+of-least fs f (Some g) e l = ap Some (least-once g f fs (least-of fs g e) l)
+
 pub leastly : NamesLeast
-leastly t f h = least-of (nameFaults t) f h
+leastly text t f s =
+    let a = spelled-spans text t s in
+    let n = listed t (a .0) (a .1) in (
+      λ h. (let l = least-of (nameFaults t) f h in record { fault = n f .0 (l .among); first = λ g k. l .first g (n g .1 k) }),
+      λ l. of-least (nameFaults t) f (nameFault t) refl (record { among = n f .1 (l .fault); first = λ g k. l .first g (n g .0 k) }),
+    )

@@ -1,14 +1,14 @@
 -- The places of signs rise from the left, and so do those in a term that they spell.
-use mathlib.Core.Path.{_≡_, refl, sym, ap, subst, _∙_}
+use mathlib.Core.Path.{_≡_, subst}
 use mathlib.Core.Bool.{Bool, true, false, cond}
 use mathlib.Core.List.{List, [], _∷_}
-use Prim.Native.Nat.{ℕ, suc, _+_, _-_, _≤_, _<_}
+use Prim.Native.Nat.{ℕ, suc, _-_, _≤_, _<_}
 use native.Mathlib.Omega.{arith}
 use lib.ListN.{length}
 use Rattle.calculus.specs.Types.{Ty, N, _⇒_, _⊗_}
-use Rattle.syntax.specs.Trees.{Name, Binder, Tree, occ, num, succ, lam, app, pair, split, iter}
+use Rattle.syntax.specs.Trees.{Name, Tree, occ, num, succ, lam, app, pair, split, iter}
 use Rattle.syntax.specs.Signs.{Sign, word, digits, mark, Placed, blank, letter, digit, begins, withLetter, withDigit, withByte, lex, signsOf}
-use Rattle.syntax.specs.Grammar.{Next, At, Binds, StandsType, Stands, Spells}
+use Rattle.syntax.specs.Grammar.{Next, At, StandsType, Stands, Spells}
 
 -- places from lo on, each past the one before
 abbrev pub Rising : ℕ → List Placed → Type 0
@@ -64,16 +64,6 @@ Ordered lo (pair p t u) = Ordered lo t × Ordered lo u
 Ordered lo (split p x y t u) = (lo ≤ x .place) × (x .place < y .place) × Ordered lo t × Ordered (suc (y .place)) u
 Ordered lo (iter p t u v) = Ordered lo t × Ordered lo u × Ordered lo v
 
-lower : {U : Type 0} (a b : ℕ) (t : Tree U) → b ≤ a → Ordered a t → Ordered b t
-lower a b (occ p x) l h = omega (arith, h)
-lower a b (num p n) l h = tt
-lower a b (succ p t) l h = lower a b t l h
-lower a b (lam p x T t) l h = (omega (arith, h .0), h .1)
-lower a b (app p t u) l h = (lower a b t l (h .0), lower a b u l (h .1))
-lower a b (pair p t u) l h = (lower a b t l (h .0), lower a b u l (h .1))
-lower a b (split p x y t u) l h = (omega (arith, h .0), h .1, lower a b t l (h .2), h .3)
-lower a b (iter p t u v) l h = (lower a b t l (h .0), lower a b u l (h .1), lower a b v l (h .2))
-
 -- past one sign, and past a type
 at : (lo p : ℕ) (x : Sign) (s r : List Placed) → At p x s r → Rising lo s → (lo ≤ p) × Rising (suc p) r
 at lo p x s r e h = subst (Rising lo) e h
@@ -89,35 +79,69 @@ past-type N lo s r e h = past lo (mark 78) s r e h
 past-type (A ⇒ B) lo s r (s₁, a, (s₂, b, (s₃, c, (s₄, d, e)))) h = past lo (mark 41) s₄ r e (past-type B lo s₃ s₄ d (past lo (mark 62) s₂ s₃ c (past-type A lo s₁ s₂ b (past lo (mark 40) s s₁ a h))))
 past-type (A ⊗ B) lo s r (s₁, a, (s₂, b, (s₃, c, (s₄, d, e)))) h = past lo (mark 41) s₄ r e (past-type B lo s₃ s₄ d (past lo (mark 42) s₂ s₃ c (past-type A lo s₁ s₂ b (past lo (mark 40) s s₁ a h))))
 
-ordered : (t : Tree Name) (lo : ℕ) (s r : List Placed) → Stands t s r → Rising lo s → Ordered lo t × Rising lo r
-ordered (occ p w) lo s r e h = (at lo p (word w) s r (e .1) h .0, past-at lo p (word w) s r (e .1) h)
-ordered (num p n) lo s r e h = (tt, past-at lo p (digits (e .0)) s r (e .3) h)
-ordered (succ p t) lo s r e h = ordered t lo (e .0) r (e .2) (past-at lo p (mark 83) s (e .0) (e .1) h)
-ordered (lam p x T t) lo s r (s₁, a, (s₂, b, (s₃, c, (s₄, d, (s₅, e, f))))) h =
+-- places from lo on and below hi, those of a part before those of the next, and past a binder in its scope
+abbrev pub Spans : {U : Type 0} → ℕ → ℕ → Tree U → Type 0
+Spans lo hi (occ p x) = (lo ≤ p) × (p < hi)
+Spans lo hi (num p n) = lo ≤ hi
+Spans lo hi (succ p t) = Spans lo hi t
+Spans lo hi (lam p x T t) = (lo ≤ x .place) × Spans (suc (x .place)) hi t
+Spans lo hi (app p t u) = (mid : ℕ) × Spans lo mid t × Spans mid hi u
+Spans lo hi (pair p t u) = (mid : ℕ) × Spans lo mid t × Spans mid hi u
+Spans lo hi (split p x y t u) = (mid : ℕ) × (lo ≤ x .place) × (x .place < y .place) × Spans (suc (y .place)) mid t × Spans mid hi u
+Spans lo hi (iter p t u v) = (mid : ℕ) × (mid′ : ℕ) × Spans lo mid t × Spans mid mid′ u × Spans mid′ hi v
+
+pub spans-up : {U : Type 0} (t : Tree U) (lo hi : ℕ) → Spans lo hi t → lo ≤ hi
+spans-up (occ p x) lo hi h = omega (arith, h .0, h .1)
+spans-up (num p n) lo hi h = h
+spans-up (succ p t) lo hi h = spans-up t lo hi h
+spans-up (lam p x T t) lo hi h = omega (arith, h .0, spans-up t (suc (x .place)) hi (h .1))
+spans-up (app p t u) lo hi (m, a, b) = omega (arith, spans-up t lo m a, spans-up u m hi b)
+spans-up (pair p t u) lo hi (m, a, b) = omega (arith, spans-up t lo m a, spans-up u m hi b)
+spans-up (split p x y t u) lo hi (m, l, k, a, b) = omega (arith, l, k, spans-up t (suc (y .place)) m a, spans-up u m hi b)
+spans-up (iter p t u v) lo hi (m, n, a, b, c) = omega (arith, spans-up t lo m a, spans-up u m n b, spans-up v n hi c)
+
+pub lower : {U : Type 0} (t : Tree U) (lo hi l : ℕ) → l ≤ lo → Spans lo hi t → Ordered l t
+lower (occ p x) lo hi l k h = omega (arith, h .0)
+lower (num p n) lo hi l k h = tt
+lower (succ p t) lo hi l k h = lower t lo hi l k h
+lower (lam p x T t) lo hi l k h = (omega (arith, h .0), lower t (suc (x .place)) hi (suc (x .place)) (omega arith) (h .1))
+lower (app p t u) lo hi l k (m, a, b) = (lower t lo m l k a, lower u m hi l (omega (arith, spans-up t lo m a)) b)
+lower (pair p t u) lo hi l k (m, a, b) = (lower t lo m l k a, lower u m hi l (omega (arith, spans-up t lo m a)) b)
+lower (split p x y t u) lo hi l k (m, i, j, a, b) = (omega arith, j, lower t (suc (y .place)) m l (omega arith) a, lower u m hi (suc (y .place)) (spans-up t (suc (y .place)) m a) b)
+lower (iter p t u v) lo hi l k (m, n, a, b, c) = (lower t lo m l k a, lower u m n l (omega (arith, spans-up t lo m a)) b, lower v n hi l (omega (arith, spans-up t lo m a, spans-up u m n b)) c)
+
+pub spans-ordered : {U : Type 0} (t : Tree U) (lo hi : ℕ) → Spans lo hi t → Ordered lo t
+spans-ordered t lo hi h = lower t lo hi lo (omega arith) h
+
+spans : (t : Tree Name) (lo : ℕ) (s r : List Placed) → Stands t s r → Rising lo s → (hi : ℕ) × Spans lo hi t × Rising hi r
+spans (occ p w) lo s r e h = let a = at lo p (word w) s r (e .1) h in (suc p, (a .0, omega arith), a .1)
+spans (num p n) lo s r e h = (lo, omega arith, past-at lo p (digits (e .0)) s r (e .3) h)
+spans (succ p t) lo s r e h = spans t lo (e .0) r (e .2) (past-at lo p (mark 83) s (e .0) (e .1) h)
+spans (lam p x T t) lo s r (s₁, a, (s₂, b, (s₃, c, (s₄, d, (s₅, e, f))))) h =
     let y = at lo (x .place) (word (x .name)) s₁ s₂ (b .1) (past-at lo p (mark 92) s s₁ a h) in
     let n = suc (x .place) in
-    let z = ordered t n s₅ r f (past n (mark 46) s₄ s₅ e (past-type T n s₃ s₄ d (past n (mark 58) s₂ s₃ c (y .1)))) in
-    ((y .0, z .0), weaken n lo r (omega (arith, y .0)) (z .1))
-ordered (app p t u) lo s r (s₁, a, (s₂, b, (s₃, c, d))) h =
-    let x = ordered t lo s₁ s₂ b (past-at lo p (mark 40) s s₁ a h) in
-    let y = ordered u lo s₂ s₃ c (x .1) in
-    ((x .0, y .0), past lo (mark 41) s₃ r d (y .1))
-ordered (pair p t u) lo s r (s₁, a, (s₂, b, (s₃, c, (s₄, d, e)))) h =
-    let x = ordered t lo s₁ s₂ b (past-at lo p (mark 60) s s₁ a h) in
-    let y = ordered u lo s₃ s₄ d (past lo (mark 44) s₂ s₃ c (x .1)) in
-    ((x .0, y .0), past lo (mark 62) s₄ r e (y .1))
-ordered (split p x y t u) lo s r (s₁, a, (s₂, b, (s₃, c, (s₄, d, (s₅, e, (s₆, f, (s₇, g, (s₈, i, (s₉, j, k))))))))) h =
+    let z = spans t n s₅ r f (past n (mark 46) s₄ s₅ e (past-type T n s₃ s₄ d (past n (mark 58) s₂ s₃ c (y .1)))) in
+    (z .0, (y .0, z .1), z .2)
+spans (app p t u) lo s r (s₁, a, (s₂, b, (s₃, c, d))) h =
+    let x = spans t lo s₁ s₂ b (past-at lo p (mark 40) s s₁ a h) in
+    let y = spans u (x .0) s₂ s₃ c (x .2) in
+    (y .0, (x .0, x .1, y .1), past (y .0) (mark 41) s₃ r d (y .2))
+spans (pair p t u) lo s r (s₁, a, (s₂, b, (s₃, c, (s₄, d, e)))) h =
+    let x = spans t lo s₁ s₂ b (past-at lo p (mark 60) s s₁ a h) in
+    let y = spans u (x .0) s₃ s₄ d (past (x .0) (mark 44) s₂ s₃ c (x .2)) in
+    (y .0, (x .0, x .1, y .1), past (y .0) (mark 62) s₄ r e (y .2))
+spans (split p x y t u) lo s r (s₁, a, (s₂, b, (s₃, c, (s₄, d, (s₅, e, (s₆, f, (s₇, g, (s₈, i, (s₉, j, k))))))))) h =
     let m = at lo (x .place) (word (x .name)) s₂ s₃ (c .1) (past lo (mark 60) s₁ s₂ b (past-at lo p _ s s₁ a h)) in
     let n = at (suc (x .place)) (y .place) (word (y .name)) s₄ s₅ (e .1) (past (suc (x .place)) (mark 44) s₃ s₄ d (m .1)) in
     let l = suc (y .place) in
-    let v = ordered t l s₇ s₈ i (past l (mark 61) s₆ s₇ g (past l (mark 62) s₅ s₆ f (n .1))) in
-    let w = ordered u l s₉ r k (past l _ s₈ s₉ j (v .1)) in
-    ((m .0, n .0, lower l lo t (omega (arith, m .0, n .0)) (v .0), w .0), weaken l lo r (omega (arith, m .0, n .0)) (w .1))
-ordered (iter p t u v) lo s r (s₁, a, (s₂, b, (s₃, c, d))) h =
-    let x = ordered t lo s₁ s₂ b (past-at lo p _ s s₁ a h) in
-    let y = ordered u lo s₂ s₃ c (x .1) in
-    let z = ordered v lo s₃ r d (y .1) in
-    ((x .0, y .0, z .0), z .1)
+    let v = spans t l s₇ s₈ i (past l (mark 61) s₆ s₇ g (past l (mark 62) s₅ s₆ f (n .1))) in
+    let w = spans u (v .0) s₉ r k (past (v .0) _ s₈ s₉ j (v .2)) in
+    (w .0, (v .0, m .0, n .0, v .1, w .1), w .2)
+spans (iter p t u v) lo s r (s₁, a, (s₂, b, (s₃, c, d))) h =
+    let x = spans t lo s₁ s₂ b (past-at lo p _ s s₁ a h) in
+    let y = spans u (x .0) s₂ s₃ c (x .2) in
+    let z = spans v (y .0) s₃ r d (y .2) in
+    (z .0, (x .0, y .0, x .1, y .1, z .1), z .2)
 
-pub spelled-ordered : (text : List ℕ) (t : Tree Name) → Spells text t → Ordered 0 t
-spelled-ordered text t h = ordered t 0 (signsOf text) [] h (rising text) .0
+pub spelled-spans : (text : List ℕ) (t : Tree Name) → Spells text t → (hi : ℕ) × Spans 0 hi t
+spelled-spans text t h = let a = spans t 0 (signsOf text) [] h (rising text) in (a .0, a .1)

@@ -1,26 +1,22 @@
--- A text has one refusal at most: of its signs, of its names, and of the whole.
+-- Signs have one refusal at most, and none where they spell a term within the limits.
 use mathlib.Core.Path.{_≡_, refl, sym, ap, subst, _∙_}
 use mathlib.Core.Bool.{Bool, true, false, cond}
 use mathlib.Core.List.{List, [], _∷_, _++_, append-assoc, append-nil}
-use mathlib.Core.Logic.{_⊎_, inl, inr}
-use Prim.Native.Nat.{ℕ, zero, suc, _+_, _≤_, _<_, max}
+use mathlib.Core.Logic.{inl, inr}
+use Prim.Native.Nat.{ℕ, zero, suc, _≤_, _<_}
 use native.Mathlib.Omega.{arith}
-use lib.Dec.{eqb}
 use lib.ListN.{length, take, length-append}
 use lib.Seq.{take-take}
 use Rattle.std.proofs.shelf.Tests.{cases-order}
 use Rattle.syntax.specs.declared.refusal.Fault.{Fault}
-use Rattle.syntax.specs.declared.refusal.Fault.the-variants.{TooLong, WrongSign, LargeNumber, PassedLimit, Unbound, BoundTwice, UsedTwice, Unused, IllTyped, NoNumber, HighType, FewCells, ManyIterators}
+use Rattle.syntax.specs.declared.refusal.Fault.the-variants.{WrongSign}
 use Rattle.syntax.specs.declared.refusal.Refusal.{Refusal}
 use Rattle.syntax.specs.Trees.{Name, Tree}
 use Rattle.syntax.specs.Signs.{Sign, Placed}
 use Rattle.syntax.specs.Grammar.{Stands, Within}
-use Rattle.syntax.specs.Names.{number}
 use Rattle.grammar.specs.Roles.{Role, roles, counted, greatest, Kept, Broken, too-large, passed}
 use Rattle.grammar.specs.Reading.{placeOfNext, SameNext, Misplaced, Passes, Refused, misplaced, passes}
-use Rattle.grammar.specs.Naming.{Least}
 use Rattle.grammar.proofs.Limits.{within-kept}
-use Rattle.grammar.proofs.Naming.{behind}
 
 -- fewer signs keep the limits too
 counted-take : (f : Role → Bool) (n : ℕ) (l : List Role) → counted f (take n l) ≤ counted f l
@@ -164,33 +160,3 @@ same-next ((p, x) ∷ r) = (p, r, refl)
 pub not-refused : {end : ℕ} {s : List Placed} {f : Refusal} (t : Tree Name) → Refused end s f → Stands t s [] → Within t → ⊥
 not-refused t (misplaced m) h w = m .stuck (m .rest) t (same-next (m .rest)) (subst (λ z. Stands t z []) (m .is) h)
 not-refused t (passes {p = p} n) h w = not-both (n .broken p (n .rest) t (subst (λ z. Stands t z []) (n .is) h)) (kept-take (suc (length (n .front))) (roles 1 t) (within-kept t w))
-
--- a fault by its number
-abbrev byNumber : ℕ → Fault
-byNumber n = cond (eqb n 1) TooLong (cond (eqb n 2) WrongSign (cond (eqb n 3) LargeNumber (cond (eqb n 4) PassedLimit (cond (eqb n 5) Unbound (cond (eqb n 6) BoundTwice (cond (eqb n 7) UsedTwice (cond (eqb n 8) Unused (cond (eqb n 9) IllTyped (cond (eqb n 10) NoNumber (cond (eqb n 11) HighType (cond (eqb n 12) FewCells ManyIterators)))))))))))
-
-numbered : (f : Fault) → byNumber (number f) ≡ f
-numbered TooLong = refl
-numbered WrongSign = refl
-numbered LargeNumber = refl
-numbered PassedLimit = refl
-numbered Unbound = refl
-numbered BoundTwice = refl
-numbered UsedTwice = refl
-numbered Unused = refl
-numbered IllTyped = refl
-numbered NoNumber = refl
-numbered HighType = refl
-numbered FewCells = refl
-numbered ManyIterators = refl
-
-same-refusal : (f g : Refusal) → f .fault ≡ g .fault → f .place ≡ g .place → f ≡ g
-same-refusal f g s p = ap (λ z. record { fault = z; place = f .place }) s ∙ ap (λ z. record { fault = g .fault; place = z }) p
-
-pub least-once : (f g : Refusal) (fs : List Refusal) → Least f fs → Least g fs → f ≡ g
-least-once f g fs x y =
-    let a = behind g f (x .first g (y .among)) in
-    let b = behind f g (y .first f (x .among)) in
-    let p : f .place ≡ g .place = grind (arith, a, b) in
-    let n : number (f .fault) ≡ number (g .fault) = grind (arith, a, b) in
-    same-refusal f g (sym (numbered (f .fault)) ∙ ap byNumber n ∙ numbered (g .fault)) p

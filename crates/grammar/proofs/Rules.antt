@@ -1,21 +1,20 @@
 -- The rule of each construct: what is inferred from the types of the parts.
 use mathlib.Core.Path.{_≡_, refl, sym, ap, subst, _∙_}
-use mathlib.Core.Bool.{Bool, true, false, cond, _&&_}
+use mathlib.Core.Bool.{true, false, _&&_}
 use mathlib.Core.List.{_++_}
 use mathlib.Core.Logic.{_⊎_, inl, inr}
-use Prim.Native.Nat.{ℕ, _≤_, _<_, max}
+use Prim.Native.Nat.{ℕ, _≤_, _<_}
 use native.Mathlib.Omega.{arith}
-use lib.Dec.{eqb, leb}
-use Rattle.std.proofs.shelf.Tests.{le-leb, lt-leb, cases-lt, cases-bool, and-parts, and-from}
+use lib.Dec.{leb}
+use Rattle.std.proofs.shelf.Tests.{le-leb, lt-leb, cases-bool, and-parts}
 use Rattle.calculus.specs.Types.{Ty, N, _⇒_, _⊗_, height}
 use Rattle.calculus.specs.Terms.{Term, free, without}
 use Rattle.calculus.specs.Typing.{Ctx, Typed, ty-var, ty-num, ty-succ, ty-lam, ty-app, ty-pair, ty-split, ty-iter, tallest}
 use Rattle.syntax.specs.Trees.{Binder, Tree, occ, num, succ, lam, app, pair, split, iter, erase, placeOf}
-use Rattle.syntax.specs.declared.refusal.Fault.{Fault}
 use Rattle.syntax.specs.declared.refusal.Fault.the-variants.{IllTyped, HighType}
-use Rattle.language.specs.Infer.{same, Checked, good, bad, then, within, Env, put, succRule, appRule, splitRule, iterStep, iterRule, infer}
+use Rattle.language.specs.Infer.{same, good, bad, then, within, Env, put, splitRule, infer}
 use Rattle.grammar.specs.Uses.{count, Linear}
-use Rattle.grammar.specs.Derivations.{Derives, given, Has, Agrees}
+use Rattle.grammar.specs.Derivations.{given, Has, Agrees}
 use Rattle.grammar.specs.Faults.{Typable, Parts}
 use Rattle.grammar.proofs.Contexts.{given-append, given-agrees, agrees-left, agrees-right, agrees-put, pick-given, count-let}
 use Rattle.grammar.proofs.Unique.{alike}

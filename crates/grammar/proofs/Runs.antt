@@ -13,7 +13,7 @@ use Rattle.syntax.specs.Signs.{Sign, Placed}
 use Rattle.syntax.specs.Names.{fault}
 use Rattle.grammar.specs.Roles.{Role}
 use Rattle.grammar.specs.Reading.{placeOfNext, SameNext}
-use Rattle.grammar.proofs.Machine.{Item, Val, Vals, Fills, allRoles, Move, next, make, Back, backwards, Ahead, forwards, not-empty, fillable}
+use Rattle.grammar.proofs.Machine.{Item, Val, Vals, Fills, allRoles, Move, next, make, backwards, forwards, not-empty, fillable}
 
 -- a check of one more role, with two counters; and what a run gives
 pub data Checks : Type 0 where

@@ -1,9 +1,9 @@
 -- The reader does what the machine does, under the limits.
-use mathlib.Core.Path.{_≡_, refl, sym, ap, subst, _∙_}
+use mathlib.Core.Path.{_≡_, refl, ap, _∙_}
 use mathlib.Core.Bool.{Bool, true, false, cond, not, _&&_, _||_}
 use mathlib.Core.List.{List, [], _∷_, _++_}
 use mathlib.Core.Option.{Option, none, some}
-use Prim.Native.Nat.{ℕ, zero, suc, _+_, _≤_}
+use Prim.Native.Nat.{ℕ, zero, suc, _+_}
 use native.Mathlib.Omega.{arith}
 use lib.Dec.{eqb, leb, ltb}
 use Rattle.std.proofs.shelf.Tests.{le-leb, lt-leb, and-parts}
@@ -12,12 +12,11 @@ use Rattle.syntax.specs.declared.refusal.Fault.the-variants.{WrongSign, LargeNu
 use Rattle.syntax.specs.declared.signs.Joint.{Joint}
 use Rattle.syntax.specs.declared.signs.Joint.the-variants.{Arrow, Product}
 use Rattle.syntax.specs.Trees.{Name, Binder, Tree, occ, num}
-use Rattle.syntax.specs.Signs.{Sign, word, digits, mark, Placed, isLet, isIn, isIter, isName, isNumber, numberOf}
-use Rattle.syntax.specs.Parse.{Out, got, refused, andThen, refuse, limited, isMark, isWordIn, expect, binder, joint, join, TypeReader, joined, typeBy, type, TermReader, functionHead, letHead, successor, function, application, couple, letIn, iterator, termFrom, termBy, term}
-use Rattle.syntax.specs.Names.{fault}
-use Rattle.grammar.specs.Roles.{Role, begins, number, base, bracket, connective, plain}
-use Rattle.grammar.proofs.Machine.{Item, aTerm, aType, aBinder, aJoint, anIn, only, Val, Vals, Move, alone, succMove, lamMove, appMove, pairMove, letMove, iterMove, bracketMove, next, make}
-use Rattle.grammar.proofs.Runs.{Checks, passes, refuses, Check, Outcome, done, stop, mapped, admit, advance, run}
+use Rattle.syntax.specs.Signs.{word, digits, mark, Placed, isLet, isIter, isName, isNumber, numberOf}
+use Rattle.syntax.specs.Parse.{Out, got, refused, andThen, refuse, limited, isMark, isWordIn, expect, binder, joint, join, TypeReader, joined, typeBy, type, TermReader, functionHead, letHead, successor, function, application, couple, letIn, iterator, termBy, term}
+use Rattle.grammar.specs.Roles.{Role, begins, number, base, connective, plain}
+use Rattle.grammar.proofs.Machine.{Item, aTerm, aType, aBinder, aJoint, anIn, only, Val, Vals, Move, alone, succMove, lamMove, appMove, pairMove, letMove, iterMove, bracketMove, make}
+use Rattle.grammar.proofs.Runs.{passes, refuses, Check, Outcome, done, stop, mapped, admit, advance, run}
 
 -- is there room for one more sign of this role, where n sub-terms and m type signs stand before it?
 abbrev pub room : ℕ → ℕ → Role → Bool

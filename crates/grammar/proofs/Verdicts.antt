@@ -6,10 +6,9 @@ use native.Mathlib.Omega.{arith}
 use Rattle.std.specs.declared.result.Result.{Result}
 use Rattle.std.specs.declared.result.Result.the-variants.{Ok, Err}
 use Rattle.syntax.specs.declared.refusal.Refusal.{Refusal}
-use Rattle.syntax.specs.Trees.{Tree}
 use Rattle.syntax.specs.Names.{resolve}
 use Rattle.language.specs.declared.program.Program.{Program}
-use Rattle.language.specs.Accepts.{accepts, Holds, Answers}
+use Rattle.language.specs.Accepts.{Holds, Answers}
 use Rattle.grammar.specs.Verdicts.{Verdict}
 use Rattle.grammar.proofs.Exact.{exactly, one, rejected}
 

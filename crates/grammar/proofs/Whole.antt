@@ -1,22 +1,20 @@
 -- Whole programs: what is read, what is spelled, and where a refusal stands.
 use mathlib.Core.Path.{_≡_, refl, sym, ap, subst, _∙_}
 use mathlib.Core.List.{List, [], _∷_, _++_, append-assoc, append-nil}
-use mathlib.Core.Logic.{_⊎_, inl, inr}
-use Prim.Native.Nat.{ℕ, suc, _+_}
+use mathlib.Core.Logic.{inl, inr}
+use Prim.Native.Nat.{ℕ, suc}
 use native.Mathlib.Omega.{arith}
 use lib.ListN.{length, take}
 use lib.Seq.{take-append-seam}
-use Rattle.syntax.specs.declared.refusal.Fault.{Fault}
-use Rattle.syntax.specs.declared.refusal.Fault.the-variants.{WrongSign}
 use Rattle.syntax.specs.declared.refusal.Refusal.{Refusal}
 use Rattle.syntax.specs.Trees.{Name, Tree}
-use Rattle.syntax.specs.Signs.{Sign, Placed}
-use Rattle.syntax.specs.Grammar.{Stands, Within}
+use Rattle.syntax.specs.Signs.{Placed}
+use Rattle.syntax.specs.Grammar.{Stands}
 use Rattle.syntax.specs.Parse.{Out, got, refused, andThen, term, last, whole}
 use Rattle.grammar.specs.Roles.{Role, roles, Kept, Broken}
-use Rattle.grammar.specs.Reading.{RolesFit, ReadSpelled, SpelledRead, Unambiguous, Begins, KeptBefore, Misplaced, Passes, Refused, misplaced, passes, RefusedRightly}
+use Rattle.grammar.specs.Reading.{RolesFit, ReadSpelled, SpelledRead, Unambiguous, Begins, KeptBefore, Refused, misplaced, passes, RefusedRightly}
 use Rattle.grammar.proofs.Machine.{Item, aTerm, Vals, Fills, allRoles}
-use Rattle.grammar.proofs.Runs.{Checks, Check, Outcome, done, stop, mapped, run, Leads, as-long, accepts, accepted, Halted, halted}
+use Rattle.grammar.proofs.Runs.{Check, Outcome, done, stop, mapped, run, Leads, as-long, accepts, accepted, Halted, halted}
 use Rattle.grammar.proofs.Runs as runs
 use Rattle.grammar.proofs.Simulation.{limits, handle, step-then, sim-term}
 use Rattle.grammar.proofs.Limits.{within-kept, kept-within, KeptFrom, Counted, leads-kept, kept-leads, kept-from, from-kept, breaks}

@@ -14,7 +14,7 @@ use Rattle.syntax.specs.declared.refusal.Refusal.{Refusal}
 use Rattle.syntax.specs.Trees.{Name, Tree, erase}
 use Rattle.syntax.specs.Signs.{signsOf}
 use Rattle.syntax.specs.Grammar.{Spells, Within}
-use Rattle.syntax.specs.Names.{resolve, binders, nameFaults, fault}
+use Rattle.syntax.specs.Names.{resolve, binders, fault}
 use Rattle.grammar.specs.Derivations.{Derives}
 use Rattle.grammar.specs.Faults.{First}
 use Rattle.grammar.specs.Typings.{Alike}
@@ -54,7 +54,7 @@ pub record Named (text : List ℕ) (t : Tree Name) : Type 0 where
 pub data Rejected (text : List ℕ) : Refusal → Type 0 where
   too-long : 16384 < length text → Rejected text (fault TooLong 0)
   unread : {f : Refusal} → length text ≤ 16384 → Refused (length text) (signsOf text) f → Rejected text f
-  misnamed : {f : Refusal} (t : Tree Name) → length text ≤ 16384 → Spells text t → Within t → Least f (nameFaults t) → Rejected text f
+  misnamed : {f : Refusal} (t : Tree Name) → length text ≤ 16384 → Spells text t → Within t → Least t f → Rejected text f
   untyped : {f : Fault} {p : ℕ} (t : Tree Name) → Named text t → First nobody (resolve [] t) f p → Rejected text (fault f p)
   no-number : {A : Ty} (t : Tree Name) → Named text t → Derives [] (erase (resolve [] t)) A → (A ≡ N → ⊥) → Rejected text (fault NoNumber 0)
   many-iterators : (t : Tree Name) → Named text t → Derives [] (erase (resolve [] t)) N → 64 < iterators (erase (resolve [] t)) → Rejected text (fault ManyIterators 0)

@@ -1,14 +1,14 @@
 -- That types are inferred exactly as the linear rules give them. Assumes nothing.
 use mathlib.Core.Path.{_≡_}
-use mathlib.Core.List.{List, [], map}
+use mathlib.Core.List.{[], map}
 use mathlib.Core.Logic.{_↔_}
 use Prim.Native.Nat.{ℕ}
 use Rattle.calculus.specs.Types.{Ty}
-use Rattle.calculus.specs.Terms.{Term, free}
+use Rattle.calculus.specs.Terms.{Term}
 use Rattle.calculus.specs.Typing.{Ctx, Typed, weight, tallest}
 use Rattle.syntax.specs.Trees.{Tree, erase}
 use Rattle.syntax.specs.declared.refusal.Fault.{Fault}
-use Rattle.language.specs.Infer.{Env, Checked, good, bad, infer}
+use Rattle.language.specs.Infer.{Env, good, bad, infer}
 use Rattle.language.specs.Judgements.{typeOf, judgements, sum, share, highest}
 use Rattle.grammar.specs.Uses.{Linear}
 use Rattle.grammar.specs.Derivations.{Derives, Has, Agrees, types}
