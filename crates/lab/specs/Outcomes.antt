@@ -6,7 +6,7 @@ use lib.Chars.{codes}
 use Rattle.std.specs.declared.result.Result.the-variants.{Ok}
 use Rattle.syntax.specs.Trees.{Tree, erase}
 use Rattle.geometry.specs.Network.{network}
-use Rattle.grammar.specs.Answers.{answers}
+use Rattle.language.specs.Accepts.{accepts}
 use Rattle.grammar.specs.Examples.{KnownAnswers}
 use Rattle.machine.specs.Worked.{Out-and-back}
 use Rattle.token.specs.State.{Rooms}
@@ -19,7 +19,7 @@ tracerRooms = record { letters = 256; iters = 256; datas = 1024; shelves = 64 }
 -- the text is accepted, and over its network, in that memory, the distance from question to n is so many steps
 pub record Brings (text : List ℕ) (n steps : ℕ) : Type 0 where
   pub term : Tree ℕ
-  pub accepted : answers text ≡ Ok term
+  pub accepted : accepts text ≡ Ok term
   pub distance : ToNumber (network (erase term)) tracerRooms n steps
 
 pub record KnownOutcomes : Type 0 where

@@ -1,7 +1,7 @@
 use mathlib.Core.Path.{ap}
 use Rattle.std.specs.Written.{decimal}
 use Rattle.writer.proofs.Writing.{wrote-is, wrote-more}
-use Rattle.lab.proofs.refusals.RefusalText.write.Needs as need
+use Rattle.lab.proofs.refusals.RefusedText.write.Needs as need
 
 pub returns : need.returns
 returns c =
