@@ -395,7 +395,8 @@ hit p w (x ∷ xs) i e = go (found w xs) refl (sameBytes w (x .binder .name)) re
         subst (Hit p w (x ∷ xs)) l (record {
           marked = touch-skip p w x xs o ∙ ap (λ (r : List InForce). x ∷ r) (m .marked) ∙ cond-cons (getD xs j nobody .used) x xs (set xs j (record { binder = getD xs j nobody .binder; used = true }));
           extra = reuse-skip p w x xs o ∙ m .extra;
-          bound = ap (λ b. sameBytes w (x .binder .name) || b) (m .bound) ∙ or-true (sameBytes w (x .binder .name)) })
+          bound = ap (λ b. sameBytes w (x .binder .name) || b) (m .bound) ∙ or-true (sameBytes w (x .binder .name));
+        })
     go None h true k ih =
         let z : Some 0 ≡ Some i = rw (h, k) at e in
         let l : 0 ≡ i = cc in
@@ -404,7 +405,8 @@ hit p w (x ∷ xs) i e = go (found w xs) refl (sameBytes w (x .binder .name)) re
         subst (Hit p w (x ∷ xs)) l (record {
           marked = ap (λ (q : List ℕ). mark x q ∷ touch xs (single p w)) o ∙ ap (λ (r : List InForce). mark x (p ∷ []) ∷ r) (m .kept) ∙ marked-here p x xs;
           extra = ap (λ (q : List ℕ). extra (x .used) q ++ reuse xs (single p w)) o ∙ ap (λ (r : List Refusal). extra (x .used) (p ∷ []) ++ r) (m .none) ∙ append-nil (extra (x .used) (p ∷ [])) ∙ extra-here p (x .used);
-          bound = rw k refl })
+          bound = rw k refl;
+        })
     go None h false k ih = let z : None ≡ Some i = rw (h, k) at e in let y : _≡_ {A = ℕ} 0 1 = cc in absurd (omega arith)
 
 -- what reading a term does to names: those bound, those in force, and the first fault
@@ -428,7 +430,9 @@ visited-occ p w s = go (found w (s .force)) refl
         record {
           bound = ap (λ (n : Names). n .bound) is ∙ sym (append-nil (s .bound));
           force = ap (λ (n : Names). n .force) is ∙ sym (m .kept);
-          first = ap (λ (n : Names). n .least) is ∙ ap (λ r. sooner (fault Unbound p) (addAll r (s .least))) (sym (m .none)) ∙ ap (λ b. addAll (cond b [] (fault Unbound p ∷ [])) (addAll (reuse (s .force) (single p w)) (s .least))) (sym (m .unbound)) }
+          first = ap (λ (n : Names). n .least) is ∙ ap (λ r. sooner (fault Unbound p) (addAll r (s .least))) (sym (m .none)) ∙ ap (λ b. addAll (cond b [] (fault Unbound p ∷ [])) (addAll (reuse (s .force) (single p w)) (s .least))) (sym (m .unbound));
+        }
+
     bound-here : (i : ℕ) → found w (s .force) ≡ Some i → (v : Bool) → getD (s .force) i nobody .used ≡ v → Visited (occ p w) s
     bound-here i e true u =
         let m = hit p w (s .force) i e in
@@ -439,7 +443,8 @@ visited-occ p w s = go (found w (s .force)) refl
         record {
           bound = ap (λ (n : Names). n .bound) is′ ∙ sym (append-nil (s .bound));
           force = ap (λ (n : Names). n .force) is′ ∙ sym kept;
-          first = ap (λ (n : Names). n .least) is′ ∙ ap (λ r. addAll r (s .least)) (sym once) ∙ ap (λ b. addAll (cond b [] (fault Unbound p ∷ [])) (addAll (reuse (s .force) (single p w)) (s .least))) (sym (m .bound)) }
+          first = ap (λ (n : Names). n .least) is′ ∙ ap (λ r. addAll r (s .least)) (sym once) ∙ ap (λ b. addAll (cond b [] (fault Unbound p ∷ [])) (addAll (reuse (s .force) (single p w)) (s .least))) (sym (m .bound));
+        }
     bound-here i e false u =
         let m = hit p w (s .force) i e in
         let is : occur p w s ≡ useAt p i s = rw (e, occur) refl in
@@ -449,7 +454,9 @@ visited-occ p w s = go (found w (s .force)) refl
         record {
           bound = ap (λ (n : Names). n .bound) is′ ∙ sym (append-nil (s .bound));
           force = ap (λ (n : Names). n .force) is′ ∙ sym marked;
-          first = ap (λ (n : Names). n .least) is′ ∙ ap (λ r. addAll r (s .least)) (sym none) ∙ ap (λ b. addAll (cond b [] (fault Unbound p ∷ [])) (addAll (reuse (s .force) (single p w)) (s .least))) (sym (m .bound)) }
+          first = ap (λ (n : Names). n .least) is′ ∙ ap (λ r. addAll r (s .least)) (sym none) ∙ ap (λ b. addAll (cond b [] (fault Unbound p ∷ [])) (addAll (reuse (s .force) (single p w)) (s .least))) (sym (m .bound));
+        }
+
     go : (o : Option ℕ) → found w (s .force) ≡ o → Visited (occ p w) s
     go None e = missing e
     go (Some i) e = bound-here i e (getD (s .force) i nobody .used) refl
@@ -581,15 +588,16 @@ module _ (p : ℕ) (x : Binder) (T : Ty) (t : Tree Name) (vt : (s : Names) → V
       let left : drop h (v .force) ≡ mark (record { binder = x; used = false }) (body n) ∷ [] = ap (drop h) body-force ∙ ap (λ (k : ℕ). drop k (touch (s .force) whole ++ (mark (record { binder = x; used = false }) (body n) ∷ []))) height ∙ drop-exact (touch (s .force) whole) (mark (record { binder = x; used = false }) (body n) ∷ []) in
       let scope : unbound (inNames (inner .force)) t ≡ u = unbound-same t (inNames (inner .force)) (n ∷ σ) (λ w. ap (among w) (map-append (λ (z : InForce). z .binder .name) (s .force) (record { binder = x; used = false } ∷ [])) ∙ among-last w σ n) in
       let first : v .least ≡ addAll u (addAll b (addAll m (addAll r (addAll a (addAll d o))))) =
-          vt inner .first ∙ ap (λ (l : List Refusal). addAll l (addAll b (addAll m (addAll (reuse (inner .force) body) (inner .least))))) scope
-          ∙ ap (λ (l : List Refusal). addAll u (addAll b (addAll m (addAll l (inner .least))))) (reuse-push (s .force) (record { binder = x; used = false }) body)
-          ∙ ap (λ z. addAll u (addAll b (addAll m z))) (add-append r a (inner .least)) ∙ ap (λ z. addAll u (addAll b (addAll m (addAll r (addAll a z))))) (declared-first x s) in
+      vt inner .first ∙ ap (λ (l : List Refusal). addAll l (addAll b (addAll m (addAll (reuse (inner .force) body) (inner .least))))) scope
+      ∙ ap (λ (l : List Refusal). addAll u (addAll b (addAll m (addAll l (inner .least))))) (reuse-push (s .force) (record { binder = x; used = false }) body)
+      ∙ ap (λ z. addAll u (addAll b (addAll m z))) (add-append r a (inner .least)) ∙ ap (λ z. addAll u (addAll b (addAll m (addAll r (addAll a z))))) (declared-first x s) in
       record {
         bound = vt inner .bound ∙ append-assoc (s .bound) (n ∷ []) (namesOf (binders t));
         force = ap (take h) body-force ∙ ap (λ (k : ℕ). take k (touch (s .force) whole ++ (mark (record { binder = x; used = false }) (body n) ∷ []))) height ∙ take-exact (touch (s .force) whole) (mark (record { binder = x; used = false }) (body n) ∷ []);
         first = ap (λ (l : List InForce). unused l (v .least)) left ∙ unused-one x (body n) (v .least) ∙ ap (addAll i) first ∙ order i u b m r a d o
-          ∙ ap (λ z. addAll u (addAll d (addAll b z))) (sym (add-append i a (addAll m (addAll r o))) ∙ ap (λ (l : List Refusal). addAll l (addAll m (addAll r o))) (sym (once-is x (body n))) ∙ sym (add-append (usedOnce x (body n)) m (addAll r o)))
-          ∙ ap (addAll u) (sym (add-append d b (addAll (usedOnce x (body n) ++ m) (addAll r o))) ∙ ap (λ (l : List Refusal). addAll l (addAll (usedOnce x (body n) ++ m) (addAll r o))) (sym (twice-first x (binders t) (s .bound)))) }
+            ∙ ap (λ z. addAll u (addAll d (addAll b z))) (sym (add-append i a (addAll m (addAll r o))) ∙ ap (λ (l : List Refusal). addAll l (addAll m (addAll r o))) (sym (once-is x (body n))) ∙ sym (add-append (usedOnce x (body n)) m (addAll r o)))
+            ∙ ap (addAll u) (sym (add-append d b (addAll (usedOnce x (body n) ++ m) (addAll r o))) ∙ ap (λ (l : List Refusal). addAll l (addAll (usedOnce x (body n) ++ m) (addAll r o))) (sym (twice-first x (binders t) (s .bound))));
+      }
 
 or-swap : (a b c : Bool) → (a || (b || c)) ≡ (b || (a || c))
 or-swap true true c = refl
@@ -651,7 +659,7 @@ module _ (p : ℕ) (x y : Binder) (t u : Tree Name) (vt : (s : Names) → Visite
   let-names w =
       let σ = inNames (s .force) in
       let inside : inNames (within .force) ≡ (σ ++ (x .name ∷ [])) ++ (y .name ∷ []) =
-          map-append (λ (z : InForce). z .binder .name) (mid .force ++ (x₀ ∷ [])) (y₀ ∷ []) ∙ ap (λ (l : List Name). l ++ (y .name ∷ [])) (map-append (λ (z : InForce). z .binder .name) (mid .force) (x₀ ∷ []) ∙ ap (λ (l : List Name). l ++ (x .name ∷ [])) (ap inNames (vt outer .force) ∙ touch-names (s .force) ft)) in
+      map-append (λ (z : InForce). z .binder .name) (mid .force ++ (x₀ ∷ [])) (y₀ ∷ []) ∙ ap (λ (l : List Name). l ++ (y .name ∷ [])) (map-append (λ (z : InForce). z .binder .name) (mid .force) (x₀ ∷ []) ∙ ap (λ (l : List Name). l ++ (x .name ∷ [])) (ap inNames (vt outer .force) ∙ touch-names (s .force) ft)) in
       ap (among w) inside ∙ among-last w (σ ++ (x .name ∷ [])) (y .name) ∙ ap (λ v. sameBytes w (y .name) || v) (among-last w σ (x .name)) ∙ or-swap (sameBytes w (y .name)) (sameBytes w (x .name)) (among w σ)
 
   let-reuse : (o : Option Refusal) → addAll (reuse (within .force) fu) o ≡ addAll (reuse (touch (s .force) ft) hidden) (addAll (extra false px) (addAll (extra false py) o))
@@ -705,20 +713,21 @@ module _ (p : ℕ) (x y : Binder) (t u : Tree Name) (vt : (s : Names) → Visite
       let left : drop h (v .force) ≡ end = ap (drop h) let-force ∙ ap (λ (k : ℕ). drop k (touch (s .force) all ++ end)) height ∙ drop-exact (touch (s .force) all) end in
       let before : mid .least ≡ addAll ut (addAll bt (addAll mt (addAll rt (addAll ty (addAll tx o))))) = vt outer .first ∙ ap (λ z. addAll ut (addAll bt (addAll mt (addAll rt z)))) (declared-first y (declare x s) ∙ ap (addAll ty) (declared-first x s)) in
       let first : v .least ≡ addAll uu (addAll bu (addAll mu (addAll ru (addAll ax (addAll ay (mid .least)))))) =
-          vu within .first ∙ ap (λ (l : List Refusal). addAll l (addAll (boundTwice (mid .bound) (binders u)) (addAll mu (addAll (reuse (within .force) fu) (mid .least))))) (unbound-same u (inNames (within .force)) (x .name ∷ y .name ∷ σ) let-names)
-          ∙ ap (λ (l : List Name). addAll uu (addAll (boundTwice l (binders u)) (addAll mu (addAll (reuse (within .force) fu) (mid .least))))) (vt outer .bound) ∙ ap (λ z. addAll uu (addAll bu (addAll mu z))) (let-reuse (mid .least)) in
+      vu within .first ∙ ap (λ (l : List Refusal). addAll l (addAll (boundTwice (mid .bound) (binders u)) (addAll mu (addAll (reuse (within .force) fu) (mid .least))))) (unbound-same u (inNames (within .force)) (x .name ∷ y .name ∷ σ) let-names)
+      ∙ ap (λ (l : List Name). addAll uu (addAll (boundTwice l (binders u)) (addAll mu (addAll (reuse (within .force) fu) (mid .least))))) (vt outer .bound) ∙ ap (λ z. addAll uu (addAll bu (addAll mu z))) (let-reuse (mid .least)) in
       let uses : addAll (usedOnce x px ++ (usedOnce y py ++ (mt ++ mu))) (addAll (reuse (s .force) all) o) ≡ addAll ix (addAll ax (addAll iy (addAll ay (addAll mt (addAll mu (addAll rt (addAll ru o))))))) =
-          add-append (usedOnce x px) (usedOnce y py ++ (mt ++ mu)) _ ∙ ap (addAll (usedOnce x px)) (add-append (usedOnce y py) (mt ++ mu) _ ∙ ap (addAll (usedOnce y py)) (add-append mt mu _ ∙ ap (λ z. addAll mt (addAll mu z)) (ap (λ (k : Name → List ℕ). addAll (reuse (s .force) k) o) (sym joined) ∙ reuse-two (s .force) ft hidden o)))
-          ∙ ap (λ (l : List Refusal). addAll l (addAll (usedOnce y py) (addAll mt (addAll mu (addAll rt (addAll ru o)))))) (once-is x px) ∙ add-append ix ax _ ∙ ap (λ (l : List Refusal). addAll ix (addAll ax (addAll l (addAll mt (addAll mu (addAll rt (addAll ru o))))))) (once-is y py) ∙ ap (λ z. addAll ix (addAll ax z)) (add-append iy ay _) in
+      add-append (usedOnce x px) (usedOnce y py ++ (mt ++ mu)) _ ∙ ap (addAll (usedOnce x px)) (add-append (usedOnce y py) (mt ++ mu) _ ∙ ap (addAll (usedOnce y py)) (add-append mt mu _ ∙ ap (λ z. addAll mt (addAll mu z)) (ap (λ (k : Name → List ℕ). addAll (reuse (s .force) k) o) (sym joined) ∙ reuse-two (s .force) ft hidden o)))
+      ∙ ap (λ (l : List Refusal). addAll l (addAll (usedOnce y py) (addAll mt (addAll mu (addAll rt (addAll ru o)))))) (once-is x px) ∙ add-append ix ax _ ∙ ap (λ (l : List Refusal). addAll ix (addAll ax (addAll l (addAll mt (addAll mu (addAll rt (addAll ru o))))))) (once-is y py) ∙ ap (λ z. addAll ix (addAll ax z)) (add-append iy ay _) in
       let rest = addAll (usedOnce x px ++ (usedOnce y py ++ (mt ++ mu))) (addAll (reuse (s .force) all) o) in
       let twice : addAll (boundTwice (s .bound) (x ∷ y ∷ (binders t ++ binders u))) rest ≡ addAll tx (addAll ty (addAll bt (addAll bu rest))) =
-          ap (λ (l : List Refusal). addAll l rest) let-twice ∙ add-append tx (ty ++ (bt ++ bu)) rest ∙ ap (addAll tx) (add-append ty (bt ++ bu) rest ∙ ap (addAll ty) (add-append bt bu rest)) in
+      ap (λ (l : List Refusal). addAll l rest) let-twice ∙ add-append tx (ty ++ (bt ++ bu)) rest ∙ ap (addAll tx) (add-append ty (bt ++ bu) rest ∙ ap (addAll ty) (add-append bt bu rest)) in
       record {
         bound = vu within .bound ∙ ap (λ (l : List Name). l ++ namesOf (binders u)) (vt outer .bound) ∙ append-assoc (outer .bound) (namesOf (binders t)) (namesOf (binders u)) ∙ append-assoc (s .bound ++ (x .name ∷ [])) (y .name ∷ []) (namesOf (binders t) ++ namesOf (binders u)) ∙ append-assoc (s .bound) (x .name ∷ []) (y .name ∷ (namesOf (binders t) ++ namesOf (binders u))) ∙ ap (λ (l : List Name). s .bound ++ (x .name ∷ y .name ∷ l)) (sym (map-append (λ (z : Binder). z .name) (binders t) (binders u)));
         force = ap (take h) let-force ∙ ap (λ (k : ℕ). take k (touch (s .force) all ++ end)) height ∙ take-exact (touch (s .force) all) end;
         first = ap (λ (l : List InForce). unused l (v .least)) left ∙ unused-two x y px py (v .least) ∙ ap (λ z. addAll iy (addAll ix z)) (first ∙ ap (λ z. addAll uu (addAll bu (addAll mu (addAll ru (addAll ax (addAll ay z)))))) before)
-          ∙ let-order iy ix uu bu mu ru ax ay ut bt mt rt ty tx o
-          ∙ sym (add-append ut uu _ ∙ ap (λ z. addAll ut (addAll uu z)) (twice ∙ ap (λ z. addAll tx (addAll ty (addAll bt (addAll bu z)))) uses)) }
+            ∙ let-order iy ix uu bu mu ru ax ay ut bt mt rt ty tx o
+            ∙ sym (add-append ut uu _ ∙ ap (λ z. addAll ut (addAll uu z)) (twice ∙ ap (λ z. addAll tx (addAll ty (addAll bt (addAll bu z)))) uses));
+      }
 
 visited : (t : Tree Name) (s : Names) → Visited t s
 unfolding visit

@@ -77,8 +77,8 @@ digit-shows b h = (grind (arith, tells), grind (arith, tells))
 
 -- a run is one sign: `one` says so of a single byte, `more` of a byte before a run
 module _ (end : ℕ) (kind : ℕ → Bool) (make : List ℕ → Sign)
-         (one : (b : ℕ) (s : List ℕ) → kind b ≡ true → begins kind s ≡ false → lex end (b ∷ s) ≡ (end - length (b ∷ s), make (b ∷ [])) ∷ lex end s)
-         (more : (b : ℕ) (s : List ℕ) (p : ℕ) (w : List ℕ) (r : List Placed) → kind b ≡ true → begins kind s ≡ true → lex end s ≡ (p, make w) ∷ r → lex end (b ∷ s) ≡ (end - length (b ∷ s), make (b ∷ w)) ∷ r) where
+    (one : (b : ℕ) (s : List ℕ) → kind b ≡ true → begins kind s ≡ false → lex end (b ∷ s) ≡ (end - length (b ∷ s), make (b ∷ [])) ∷ lex end s)
+    (more : (b : ℕ) (s : List ℕ) (p : ℕ) (w : List ℕ) (r : List Placed) → kind b ≡ true → begins kind s ≡ true → lex end s ≡ (p, make w) ∷ r → lex end (b ∷ s) ≡ (end - length (b ∷ s), make (b ∷ w)) ∷ r) where
   lex-run : (s : List ℕ) (b : ℕ) → kind b ≡ true → lex end (b ∷ s) ≡ (end - length (b ∷ s), make (b ∷ take (run kind s) s)) ∷ lex end (drop (run kind s) s)
   lex-run [] b h = one b [] h refl
   lex-run (c ∷ s) b h = go (kind c) refl (lex-run s c)

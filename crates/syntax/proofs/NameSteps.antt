@@ -64,6 +64,7 @@ found-within w (x ∷ xs) i e = go (found w xs) refl (found-within w xs)
     last : (v : Bool) → cond v (Some 0) None ≡ Some i → i < suc (length xs)
     last true h = let k : _≡_ {A = ℕ} 0 i = cc in omega arith
     last false h = let z : _≡_ {A = ℕ} 0 1 = cc in absurd (omega arith)
+
     go : (o : Option ℕ) → found w xs ≡ o → ((j : ℕ) → found w xs ≡ Some j → j < length xs) → i < suc (length xs)
     go (Some j) h ih = let k : Some (suc j) ≡ Some i = rw h at e in let l : suc j ≡ i = cc in let m = ih j h in omega arith
     go None h ih = last (sameBytes w (x .binder .name)) (rw h at e)

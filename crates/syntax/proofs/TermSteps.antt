@@ -38,9 +38,6 @@ force-length s r k = sym (length-map (r .force) (λ (x : InForce). x .binder)) �
 
 -- there is room for the parts of a sub-term that was counted
 module _ (d : ℕ) (subs : List Subterm) (cells : List TypeCell) (names : Names) (room : Room d subs cells names) (few : length subs + d < 2048) where
-  pub room-part : Room (d + 1) subs cells names
-  room-part = record { few = omega arith; signs = room .signs; bound = omega (arith, room .bound); force = omega (arith, room .force) }
-
   pub room-body : (x : Binder) (cells′ : List TypeCell) → length cells′ ≤ 2048 → Room (d + 1) subs cells′ (enter x (declare x names))
   room-body x cells′ h = record { few = omega arith; signs = h; bound = omega (arith, room .bound, length-append (names .bound) (x .name ∷ [])); force = omega (arith, room .force, length-append (names .force) (record { binder = x; used = false } ∷ [])) }
 
@@ -120,4 +117,4 @@ module _ (d : ℕ) (subs : List Subterm) (cells : List TypeCell) (names : Names)
       let body-types : c₂ ≡ withTypes (resolve (σ ++ (f ∷ g ∷ [])) (b .0)) c₁ = y .types ∙ ap (λ (r : List Binder). withTypes (resolve r (b .0)) c₁) e in
       let height : h ≡ length (names .force) = high ∙ force-length names n₁ k in
       built d subs cells names (split p f g (a .0) (b .0)) p (Let (f .place) (g .place) i j) s₁ c₁ (enter g (enter f n₁)) s₂ c₂ n₂ (leave h n₂) b j y (cc (x .term, x .at, x .types, body-term, y .at)) (cc (x .types, body-types))
-        (ap (leave h) (y .visited ∙ ap (λ (n : Names). visit (b .0) (enter g (enter f n))) (x .visited)) ∙ ap (λ (n : ℕ). leave n (visit (b .0) (enter g (enter f (visit (a .0) (declare g (declare f names))))))) height) refl
+      (ap (leave h) (y .visited ∙ ap (λ (n : Names). visit (b .0) (enter g (enter f n))) (x .visited)) ∙ ap (λ (n : ℕ). leave n (visit (b .0) (enter g (enter f (visit (a .0) (declare g (declare f names))))))) height) refl

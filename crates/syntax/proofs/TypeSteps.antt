@@ -74,6 +74,7 @@ module _ (end : ℕ) (text rest : List ℕ) (e : rest ≡ skipped text) where
       where
         here : lex end text ≡ (end - length rest, mark 78) ∷ lex end (tail rest)
         here = mark-here end text 78 rest (tail rest) e (front-at rest 78 h g) refl refl
+
         go : (depth < 64) ⊎ (64 ≤ depth) → (64 ≤ depth) ⊎ (2048 ≤ n) → type end (64 - depth) n (lex end text) ≡ refuse PassedLimit (end - length rest)
         go (inr d) full = type-bottom end depth n (lex end text) d ∙ rw here refl
         go (inl d) (inl full) = absurd (omega arith)

@@ -17,7 +17,6 @@ abbrev pub _▸_ : Spelling → Spelling → Spelling
 _▸_ R S s r = (m : List Placed) × R s m × S m r
 
 infixr 40 _▸_
-
 -- the sign x, at place p
 abbrev pub At : ℕ → Sign → Spelling
 At p x s r = s ≡ (p, x) ∷ r

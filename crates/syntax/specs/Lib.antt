@@ -10,3 +10,4 @@ pub mod Held
 pub mod Steps
 pub mod Reads
 pub mod Answer
+pub mod Worked

@@ -6,6 +6,7 @@ use lib.Dec.{ltb}
 use Prim.Native.Nat.{ℕ, suc, _+_, _-_, _*_, _≤_, _<_}
 use denote.Ref.{RefT}
 use lib.ListN.{length}
+use Rattle.std.specs.Of.Vec.{vec-items}
 use Rattle.calculus.specs.Types.{Ty}
 use Rattle.std.specs.declared.option.Option.{Option}
 use Rattle.std.specs.declared.option.Option.the-variants.{Some, None}
@@ -21,13 +22,15 @@ use Rattle.syntax.specs.declared.names.First.the-variants as first
 use Rattle.syntax.specs.declared.program.Subterm.{Subterm}
 use Rattle.syntax.specs.declared.program.TypeCell.{TypeCell}
 use Rattle.syntax.specs.declared.program.TypeCell.the-variants as cell
+use Rattle.syntax.specs.declared.scope.Scope.{Scope}
 use Rattle.syntax.specs.declared.signs.Joint.{Joint}
+use Rattle.syntax.specs.declared.tables.Program.{Program}
 use Rattle.syntax.specs.declared.signs.Joint.the-variants.{Arrow, Product}
 use Rattle.syntax.specs.Layout.{top, withType, withTypes, withTerm}
 use Rattle.syntax.specs.Trees.{Name, Binder, Tree, occ, num}
 use Rattle.syntax.specs.Names.{resolve}
 use Rattle.syntax.specs.Scopes.{Names, visit}
-use Rattle.syntax.specs.Held.{bindersOf}
+use Rattle.syntax.specs.Held.{namesOf, bindersOf}
 use Rattle.syntax.specs.Signs.{Placed, blank, lex, isName, isNumber, numberOf}
 use Rattle.syntax.specs.Parse.{Out, got, refused, limited, TermReader, successor, function, application, couple, letIn, iterator, termBy}
 
@@ -121,3 +124,23 @@ pub record Room (depth : ℕ) (subs : List Subterm) (cells : List TypeCell) (nam
   pub signs : length cells ≤ 2048
   pub bound : length (names .bound) ≤ 2 * (length subs + depth)
   pub force : length (names .force) ≤ 2 * depth
+
+-- the same of a program and of names as memory holds them
+abbrev pub TermGives : ℕ → ℕ → Program → Scope → Program → Scope → Out (Tree Name × ℕ × ℕ) → Result (ℕ × RefT (List ℕ)) Refusal → Type 0
+TermGives end depth program scope program′ scope′ o r =
+    Gives end (TermHeld depth (vec-items (program .subterms)) (vec-items (program .types)) (namesOf scope) (vec-items (program′ .subterms)) (vec-items (program′ .types)) (namesOf scope′)) o r
+
+abbrev pub HasRoom : ℕ → Program → Scope → Type 0
+HasRoom depth program scope = Room depth (vec-items (program .subterms)) (vec-items (program .types)) (namesOf scope)
+
+-- how many sub-terms stand before one inside `depth` others: those put, and those around it
+abbrev pub begun : ℕ → Program → ℕ
+begun depth program = length (vec-items (program .subterms)) + depth
+
+-- how many type signs
+abbrev pub signed : Program → ℕ
+signed program = length (vec-items (program .types))
+
+-- the binders of the names in force
+abbrev pub inForceIn : Scope → List Binder
+inForceIn scope = bindersOf (namesOf scope .force)

@@ -5,16 +5,19 @@ ghost use Rattle.std.specs.Of.Vec.{vec-items, vec-cap};
 ghost use Rattle.syntax.specs.Answer.{Answers, ReadAs};
 ghost use Rattle.syntax.specs.Held.{namesOf};
 ghost use Rattle.syntax.specs.Scopes.{noNames};
-pub mod names;
+ghost use Rattle.syntax.specs.Worked.{Worked};
+
+mod names;
 pub mod program;
 pub mod refusal;
-pub mod scan;
-pub mod scope;
-pub mod scoping;
-pub mod signs;
+mod scan;
+mod scope;
+mod scoping;
+mod signs;
 pub mod tables;
-pub mod terms;
-pub mod types;
+mod terms;
+mod types;
+
 use refusal::Fault;
 use refusal::Refusal;
 use scan::skip;
@@ -50,7 +53,10 @@ fn whole(text: &[u8], program: &mut Program, scope: &mut Scope) -> Result<usize,
 {
     let end = text.len();
     if end > LONGEST {
-        return Err(Refusal { fault: Fault::TooLong, place: 0 });
+        return Err(Refusal {
+            fault: Fault::TooLong,
+            place: 0,
+        });
     }
     let (root, rest) = term(text, end, 0, program, scope)?;
     let rest = skip(rest);
@@ -75,3 +81,8 @@ pub fn read(text: &[u8], tables: &mut Tables) -> Result<usize, Refusal>
     }
     answer
 }
+
+// What small texts are read as follows by computation from the definitions alone.
+pub fn small_texts()
+    ensures { λ _. ⌜ Worked ⌝ }
+{}

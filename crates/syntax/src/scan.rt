@@ -15,6 +15,7 @@ use crate::refusal::Fault;
 use crate::refusal::Refusal;
 
 const LARGEST: u32 = 1_000_000_000;
+
 const LONGEST: usize = 16;
 
 // The place of what is left, in a text that ends at `end`.
@@ -27,13 +28,19 @@ pub fn place_of(end: usize, rest: &[u8]) -> usize
 pub fn wrong_sign(end: usize, rest: &[u8]) -> Refusal
     ensures { λ r. ⌜ r ≡ record { fault = Fault.WrongSign; place = end - length (now (rest .entry)) } ⌝ }
 {
-    Refusal { fault: Fault::WrongSign, place: place_of(end, rest) }
+    Refusal {
+        fault: Fault::WrongSign,
+        place: place_of(end, rest),
+    }
 }
 
 pub fn passed_limit(end: usize, rest: &[u8]) -> Refusal
     ensures { λ r. ⌜ r ≡ record { fault = Fault.PassedLimit; place = end - length (now (rest .entry)) } ⌝ }
 {
-    Refusal { fault: Fault::PassedLimit, place: place_of(end, rest) }
+    Refusal {
+        fault: Fault::PassedLimit,
+        place: place_of(end, rest),
+    }
 }
 
 // What is left once spaces and line feeds are passed.
@@ -122,11 +129,20 @@ pub fn binder<'a>(text: &'a [u8], end: usize) -> Result<(Binder<'a>, &'a [u8]), 
     if name.is_empty() || !is_name(name) {
         return Err(wrong_sign(end, rest));
     }
-    Ok((Binder { place: place_of(end, rest), name }, after))
+    Ok((
+        Binder {
+            place: place_of(end, rest),
+            name,
+        },
+        after,
+    ))
 }
 
 // Reads `<x,y> =` after the word `let`.
-pub fn let_head<'a>(text: &'a [u8], end: usize) -> Result<((Binder<'a>, Binder<'a>), &'a [u8]), Refusal>
+pub fn let_head<'a>(
+    text: &'a [u8],
+    end: usize,
+) -> Result<((Binder<'a>, Binder<'a>), &'a [u8]), Refusal>
     ensures { λ r. ⌜ Gives end AreBinders (heads end (lex end (now (text .entry)))) r ⌝ }
 {
     let rest = expect(text, end, b'<')?;
@@ -165,7 +181,10 @@ fn first_number<'a>(text: &'a [u8], end: usize) -> Result<(First<'a>, &'a [u8]),
     let (run, rest) = run(text, b'0', b'9');
     match number(run) {
         Ok(n) => Ok((First::Number(n), rest)),
-        Err(fault) => Err(Refusal { fault, place: place_of(end, text) }),
+        Err(fault) => Err(Refusal {
+            fault,
+            place: place_of(end, text),
+        }),
     }
 }
 

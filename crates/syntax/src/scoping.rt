@@ -25,7 +25,10 @@ fn copy(word: &[u8]) -> Name
     for (i, b) in word.iter().enumerate() {
         letters[i] = *b;
     }
-    Name { letters, length: word.len() }
+    Name {
+        letters,
+        length: word.len(),
+    }
 }
 
 fn same(name: &Name, word: &[u8]) -> bool
@@ -77,13 +80,7 @@ fn sooner(a: Refusal, other: Option<Refusal>) -> Option<Refusal>
 {
     match other {
         None => Some(a),
-        Some(b) => {
-            if before(a, b) {
-                Some(a)
-            } else {
-                Some(b)
-            }
-        }
+        Some(b) => { if before(a, b) { Some(a) } else { Some(b) } }
     }
 }
 
@@ -94,7 +91,13 @@ pub fn declare(scope: &mut Scope, binder: Binder)
     ensures { λ _. ⌜ namesOf (now (scope .exit)) ≡ declared (binderAt (binder .entry)) (namesOf (now (scope .entry))) ⌝ }
 {
     if among(&scope.bound, binder.name) {
-        scope.least = sooner(Refusal { fault: Fault::BoundTwice, place: binder.place }, scope.least);
+        scope.least = sooner(
+            Refusal {
+                fault: Fault::BoundTwice,
+                place: binder.place,
+            },
+            scope.least,
+        );
     }
     scope.bound.push_reserved(copy(binder.name));
 }
@@ -105,7 +108,11 @@ pub fn enter(scope: &mut Scope, binder: Binder)
     requires short { ⌜ length (now (binder .name)) ≤ 16 ⌝ }
     ensures { λ _. ⌜ namesOf (now (scope .exit)) ≡ entered (binderAt (binder .entry)) (namesOf (now (scope .entry))) ⌝ }
 {
-    scope.in_force.push_reserved(InForce { place: binder.place, name: copy(binder.name), used: false });
+    scope.in_force.push_reserved(InForce {
+        place: binder.place,
+        name: copy(binder.name),
+        used: false,
+    });
 }
 
 // A name occurs: the place of its binder, or its own where it has none.
@@ -114,14 +121,30 @@ pub fn occur(scope: &mut Scope, place: usize, word: &[u8]) -> usize
     ensures binder { λ r. ⌜ r ≡ binderOf (now (word .entry)) (bindersOf (namesOf (now (scope .entry)) .force)) place ⌝ }
 {
     let Some(i) = found(&scope.in_force, word) else {
-        scope.least = sooner(Refusal { fault: Fault::Unbound, place }, scope.least);
+        scope.least = sooner(
+            Refusal {
+                fault: Fault::Unbound,
+                place,
+            },
+            scope.least,
+        );
         return place;
     };
     let name = scope.in_force[i];
     if name.used {
-        scope.least = sooner(Refusal { fault: Fault::UsedTwice, place }, scope.least);
+        scope.least = sooner(
+            Refusal {
+                fault: Fault::UsedTwice,
+                place,
+            },
+            scope.least,
+        );
     } else {
-        scope.in_force[i] = InForce { place: name.place, name: name.name, used: true };
+        scope.in_force[i] = InForce {
+            place: name.place,
+            name: name.name,
+            used: true,
+        };
     }
     name.place
 }
@@ -132,7 +155,13 @@ fn unused(names: &[InForce], least: Option<Refusal>) -> Option<Refusal>
     let mut least = least;
     for name in names {
         if !name.used {
-            least = sooner(Refusal { fault: Fault::Unused, place: name.place }, least);
+            least = sooner(
+                Refusal {
+                    fault: Fault::Unused,
+                    place: name.place,
+                },
+                least,
+            );
         }
     }
     least

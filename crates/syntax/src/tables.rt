@@ -22,7 +22,7 @@ pub struct Program {
 #[derive(Drop)]
 pub struct Tables {
     pub program: Program,
-    pub scope: Scope,
+    pub(crate) scope: Scope,
 }
 
 impl Tables {
@@ -34,7 +34,11 @@ impl Tables {
         let bound = Vec::with_capacity(heap, 4096)?;
         let in_force = Vec::with_capacity(heap, 256)?;
         let program = Program { subterms, types };
-        let scope = Scope { bound, in_force, least: None };
+        let scope = Scope {
+            bound,
+            in_force,
+            least: None,
+        };
         Ok(Tables { program, scope })
     }
 }

@@ -4,11 +4,10 @@ ghost use mathlib.Core.Path.{_≡_};
 ghost use Prim.Native.Nat.{ℕ, suc, _+_, _-_, _<_, _≤_};
 ghost use lib.ListN.{length};
 ghost use Rattle.std.specs.Of.Vec.{vec-items, vec-len, vec-cap};
-ghost use Rattle.syntax.specs.Held.{namesOf, bindersOf};
 ghost use Rattle.syntax.specs.Layout.{push};
 ghost use Rattle.syntax.specs.Parse.{term as terms, successor as successors, function as functions, application as applications, couple, letIn, iterator as iterators};
 ghost use Rattle.syntax.specs.Signs.{lex};
-ghost use Rattle.syntax.specs.Steps.{Gives, TermHeld, Room};
+ghost use Rattle.syntax.specs.Steps.{TermGives, HasRoom, begun, signed, inForceIn};
 use crate::names::First;
 use crate::program::Shape;
 use crate::program::Subterm;
@@ -21,15 +20,16 @@ use crate::scan::passed_limit;
 use crate::scan::place_of;
 use crate::scan::skip;
 use crate::scope::Scope;
+use crate::scoping::Guard;
 use crate::scoping::declare;
 use crate::scoping::enter;
 use crate::scoping::occur;
 use crate::scoping::settle;
-use crate::scoping::Guard;
 use crate::tables::Program;
 use crate::types::function_head;
 
 const DEPTH: usize = 128;
+
 const SUBTERMS: usize = 2048;
 
 // Puts a sub-term after the others.
@@ -45,10 +45,16 @@ fn put(program: &mut Program, place: usize, shape: Shape) -> usize
 }
 
 // Reads a term inside `depth` others. Whatever it answers, the names in force are again those that were.
-pub fn term<'a>(text: &'a [u8], end: usize, depth: usize, program: &mut Program, scope: &mut Scope) -> Result<(usize, &'a [u8]), Refusal>
-    requires { ⌜ Room depth (vec-items (now program .subterms)) (vec-items (now program .types)) (namesOf (now scope)) ⌝ }
-    ensures gives { λ r. ⌜ Gives end (TermHeld depth (vec-items (now (program .entry) .subterms)) (vec-items (now (program .entry) .types)) (namesOf (now (scope .entry))) (vec-items (now (program .exit) .subterms)) (vec-items (now (program .exit) .types)) (namesOf (now (scope .exit)))) (terms end (128 - depth) (length (vec-items (now (program .entry) .subterms)) + depth) (length (vec-items (now (program .entry) .types))) (lex end (now (text .entry)))) r ⌝ }
-    ensures kept { λ _. ⌜ bindersOf (namesOf (now (scope .exit)) .force) ≡ bindersOf (namesOf (now (scope .entry)) .force) ⌝ }
+pub fn term<'a>(
+    text: &'a [u8],
+    end: usize,
+    depth: usize,
+    program: &mut Program,
+    scope: &mut Scope,
+) -> Result<(usize, &'a [u8]), Refusal>
+    requires { ⌜ HasRoom depth (now program) (now scope) ⌝ }
+    ensures gives { λ r. ⌜ TermGives end depth (now (program .entry)) (now (scope .entry)) (now (program .exit)) (now (scope .exit)) (terms end (128 - depth) (begun depth (now (program .entry))) (signed (now (program .entry))) (lex end (now (text .entry)))) r ⌝ }
+    ensures kept { λ _. ⌜ inForceIn (now (scope .exit)) ≡ inForceIn (now (scope .entry)) ⌝ }
 {
     let text = skip(text);
     let place = place_of(end, text);
@@ -72,24 +78,38 @@ pub fn term<'a>(text: &'a [u8], end: usize, depth: usize, program: &mut Program,
 }
 
 // Reads `t` after `S`.
-fn successor<'a>(text: &'a [u8], end: usize, place: usize, depth: usize, program: &mut Program, scope: &mut Scope) -> Result<(usize, &'a [u8]), Refusal>
-    requires room { ⌜ Room depth (vec-items (now program .subterms)) (vec-items (now program .types)) (namesOf (now scope)) ⌝ }
+fn successor<'a>(
+    text: &'a [u8],
+    end: usize,
+    place: usize,
+    depth: usize,
+    program: &mut Program,
+    scope: &mut Scope,
+) -> Result<(usize, &'a [u8]), Refusal>
+    requires room { ⌜ HasRoom depth (now program) (now scope) ⌝ }
     requires deep { ⌜ depth < 128 ⌝ }
-    requires few { ⌜ length (vec-items (now program .subterms)) + depth < 2048 ⌝ }
-    ensures gives { λ r. ⌜ Gives end (TermHeld depth (vec-items (now (program .entry) .subterms)) (vec-items (now (program .entry) .types)) (namesOf (now (scope .entry))) (vec-items (now (program .exit) .subterms)) (vec-items (now (program .exit) .types)) (namesOf (now (scope .exit)))) (successors (terms end (128 - (depth + 1))) place (suc (length (vec-items (now (program .entry) .subterms)) + depth)) (length (vec-items (now (program .entry) .types))) (lex end (now (text .entry)))) r ⌝ }
-    ensures kept { λ _. ⌜ bindersOf (namesOf (now (scope .exit)) .force) ≡ bindersOf (namesOf (now (scope .entry)) .force) ⌝ }
+    requires few { ⌜ begun depth (now program) < 2048 ⌝ }
+    ensures gives { λ r. ⌜ TermGives end depth (now (program .entry)) (now (scope .entry)) (now (program .exit)) (now (scope .exit)) (successors (terms end (128 - (depth + 1))) place (suc (begun depth (now (program .entry)))) (signed (now (program .entry))) (lex end (now (text .entry)))) r ⌝ }
+    ensures kept { λ _. ⌜ inForceIn (now (scope .exit)) ≡ inForceIn (now (scope .entry)) ⌝ }
 {
     let (body, rest) = term(text, end, depth + 1, program, scope)?;
     Ok((put(program, place, Shape::Successor(body)), rest))
 }
 
 // Reads `x:T.t` after a backslash.
-fn function<'a>(text: &'a [u8], end: usize, place: usize, depth: usize, program: &mut Program, scope: &mut Scope) -> Result<(usize, &'a [u8]), Refusal>
-    requires room { ⌜ Room depth (vec-items (now program .subterms)) (vec-items (now program .types)) (namesOf (now scope)) ⌝ }
+fn function<'a>(
+    text: &'a [u8],
+    end: usize,
+    place: usize,
+    depth: usize,
+    program: &mut Program,
+    scope: &mut Scope,
+) -> Result<(usize, &'a [u8]), Refusal>
+    requires room { ⌜ HasRoom depth (now program) (now scope) ⌝ }
     requires deep { ⌜ depth < 128 ⌝ }
-    requires few { ⌜ length (vec-items (now program .subterms)) + depth < 2048 ⌝ }
-    ensures gives { λ r. ⌜ Gives end (TermHeld depth (vec-items (now (program .entry) .subterms)) (vec-items (now (program .entry) .types)) (namesOf (now (scope .entry))) (vec-items (now (program .exit) .subterms)) (vec-items (now (program .exit) .types)) (namesOf (now (scope .exit)))) (functions end (terms end (128 - (depth + 1))) place (suc (length (vec-items (now (program .entry) .subterms)) + depth)) (length (vec-items (now (program .entry) .types))) (lex end (now (text .entry)))) r ⌝ }
-    ensures kept { λ _. ⌜ bindersOf (namesOf (now (scope .exit)) .force) ≡ bindersOf (namesOf (now (scope .entry)) .force) ⌝ }
+    requires few { ⌜ begun depth (now program) < 2048 ⌝ }
+    ensures gives { λ r. ⌜ TermGives end depth (now (program .entry)) (now (scope .entry)) (now (program .exit)) (now (scope .exit)) (functions end (terms end (128 - (depth + 1))) place (suc (begun depth (now (program .entry)))) (signed (now (program .entry))) (lex end (now (text .entry)))) r ⌝ }
+    ensures kept { λ _. ⌜ inForceIn (now (scope .exit)) ≡ inForceIn (now (scope .entry)) ⌝ }
 {
     let (head, rest) = function_head(text, end, &mut program.types)?;
     let before = scope.in_force.len();
@@ -98,31 +118,52 @@ fn function<'a>(text: &'a [u8], end: usize, place: usize, depth: usize, program:
     let guard = Guard(scope, before);
     let (body, rest) = term(rest, end, depth + 1, program, &mut *guard.0)?;
     settle(&mut *guard.0, before);
-    let shape = Shape::Function { binder: head.binder.place, annotation: head.annotation, body };
+    let shape = Shape::Function {
+        binder: head.binder.place,
+        annotation: head.annotation,
+        body,
+    };
     Ok((put(program, place, shape), rest))
 }
 
 // Reads `t u)` after a bracket.
-fn application<'a>(text: &'a [u8], end: usize, place: usize, depth: usize, program: &mut Program, scope: &mut Scope) -> Result<(usize, &'a [u8]), Refusal>
-    requires room { ⌜ Room depth (vec-items (now program .subterms)) (vec-items (now program .types)) (namesOf (now scope)) ⌝ }
+fn application<'a>(
+    text: &'a [u8],
+    end: usize,
+    place: usize,
+    depth: usize,
+    program: &mut Program,
+    scope: &mut Scope,
+) -> Result<(usize, &'a [u8]), Refusal>
+    requires room { ⌜ HasRoom depth (now program) (now scope) ⌝ }
     requires deep { ⌜ depth < 128 ⌝ }
-    requires few { ⌜ length (vec-items (now program .subterms)) + depth < 2048 ⌝ }
-    ensures gives { λ r. ⌜ Gives end (TermHeld depth (vec-items (now (program .entry) .subterms)) (vec-items (now (program .entry) .types)) (namesOf (now (scope .entry))) (vec-items (now (program .exit) .subterms)) (vec-items (now (program .exit) .types)) (namesOf (now (scope .exit)))) (applications end (terms end (128 - (depth + 1))) place (suc (length (vec-items (now (program .entry) .subterms)) + depth)) (length (vec-items (now (program .entry) .types))) (lex end (now (text .entry)))) r ⌝ }
-    ensures kept { λ _. ⌜ bindersOf (namesOf (now (scope .exit)) .force) ≡ bindersOf (namesOf (now (scope .entry)) .force) ⌝ }
+    requires few { ⌜ begun depth (now program) < 2048 ⌝ }
+    ensures gives { λ r. ⌜ TermGives end depth (now (program .entry)) (now (scope .entry)) (now (program .exit)) (now (scope .exit)) (applications end (terms end (128 - (depth + 1))) place (suc (begun depth (now (program .entry)))) (signed (now (program .entry))) (lex end (now (text .entry)))) r ⌝ }
+    ensures kept { λ _. ⌜ inForceIn (now (scope .exit)) ≡ inForceIn (now (scope .entry)) ⌝ }
 {
     let (function, rest) = term(text, end, depth + 1, program, scope)?;
     let (argument, rest) = term(rest, end, depth + 1, program, scope)?;
     let rest = expect(rest, end, b')')?;
-    Ok((put(program, place, Shape::Application(function, argument)), rest))
+    Ok((
+        put(program, place, Shape::Application(function, argument)),
+        rest,
+    ))
 }
 
 // Reads `t,u>` after `<`.
-fn pair<'a>(text: &'a [u8], end: usize, place: usize, depth: usize, program: &mut Program, scope: &mut Scope) -> Result<(usize, &'a [u8]), Refusal>
-    requires room { ⌜ Room depth (vec-items (now program .subterms)) (vec-items (now program .types)) (namesOf (now scope)) ⌝ }
+fn pair<'a>(
+    text: &'a [u8],
+    end: usize,
+    place: usize,
+    depth: usize,
+    program: &mut Program,
+    scope: &mut Scope,
+) -> Result<(usize, &'a [u8]), Refusal>
+    requires room { ⌜ HasRoom depth (now program) (now scope) ⌝ }
     requires deep { ⌜ depth < 128 ⌝ }
-    requires few { ⌜ length (vec-items (now program .subterms)) + depth < 2048 ⌝ }
-    ensures gives { λ r. ⌜ Gives end (TermHeld depth (vec-items (now (program .entry) .subterms)) (vec-items (now (program .entry) .types)) (namesOf (now (scope .entry))) (vec-items (now (program .exit) .subterms)) (vec-items (now (program .exit) .types)) (namesOf (now (scope .exit)))) (couple end (terms end (128 - (depth + 1))) place (suc (length (vec-items (now (program .entry) .subterms)) + depth)) (length (vec-items (now (program .entry) .types))) (lex end (now (text .entry)))) r ⌝ }
-    ensures kept { λ _. ⌜ bindersOf (namesOf (now (scope .exit)) .force) ≡ bindersOf (namesOf (now (scope .entry)) .force) ⌝ }
+    requires few { ⌜ begun depth (now program) < 2048 ⌝ }
+    ensures gives { λ r. ⌜ TermGives end depth (now (program .entry)) (now (scope .entry)) (now (program .exit)) (now (scope .exit)) (couple end (terms end (128 - (depth + 1))) place (suc (begun depth (now (program .entry)))) (signed (now (program .entry))) (lex end (now (text .entry)))) r ⌝ }
+    ensures kept { λ _. ⌜ inForceIn (now (scope .exit)) ≡ inForceIn (now (scope .entry)) ⌝ }
 {
     let (first, rest) = term(text, end, depth + 1, program, scope)?;
     let rest = expect(rest, end, b',')?;
@@ -132,12 +173,19 @@ fn pair<'a>(text: &'a [u8], end: usize, place: usize, depth: usize, program: &mu
 }
 
 // Reads `<x,y> = t in u` after the word `let`.
-fn let_in<'a>(text: &'a [u8], end: usize, place: usize, depth: usize, program: &mut Program, scope: &mut Scope) -> Result<(usize, &'a [u8]), Refusal>
-    requires room { ⌜ Room depth (vec-items (now program .subterms)) (vec-items (now program .types)) (namesOf (now scope)) ⌝ }
+fn let_in<'a>(
+    text: &'a [u8],
+    end: usize,
+    place: usize,
+    depth: usize,
+    program: &mut Program,
+    scope: &mut Scope,
+) -> Result<(usize, &'a [u8]), Refusal>
+    requires room { ⌜ HasRoom depth (now program) (now scope) ⌝ }
     requires deep { ⌜ depth < 128 ⌝ }
-    requires few { ⌜ length (vec-items (now program .subterms)) + depth < 2048 ⌝ }
-    ensures gives { λ r. ⌜ Gives end (TermHeld depth (vec-items (now (program .entry) .subterms)) (vec-items (now (program .entry) .types)) (namesOf (now (scope .entry))) (vec-items (now (program .exit) .subterms)) (vec-items (now (program .exit) .types)) (namesOf (now (scope .exit)))) (letIn end (terms end (128 - (depth + 1))) place (suc (length (vec-items (now (program .entry) .subterms)) + depth)) (length (vec-items (now (program .entry) .types))) (lex end (now (text .entry)))) r ⌝ }
-    ensures kept { λ _. ⌜ bindersOf (namesOf (now (scope .exit)) .force) ≡ bindersOf (namesOf (now (scope .entry)) .force) ⌝ }
+    requires few { ⌜ begun depth (now program) < 2048 ⌝ }
+    ensures gives { λ r. ⌜ TermGives end depth (now (program .entry)) (now (scope .entry)) (now (program .exit)) (now (scope .exit)) (letIn end (terms end (128 - (depth + 1))) place (suc (begun depth (now (program .entry)))) (signed (now (program .entry))) (lex end (now (text .entry)))) r ⌝ }
+    ensures kept { λ _. ⌜ inForceIn (now (scope .exit)) ≡ inForceIn (now (scope .entry)) ⌝ }
 {
     let ((first, second), rest) = let_head(text, end)?;
     declare(scope, first);
@@ -150,20 +198,35 @@ fn let_in<'a>(text: &'a [u8], end: usize, place: usize, depth: usize, program: &
     let guard = Guard(scope, before);
     let (body, rest) = term(rest, end, depth + 1, program, &mut *guard.0)?;
     settle(&mut *guard.0, before);
-    let shape = Shape::Let { first: first.place, second: second.place, pair, body };
+    let shape = Shape::Let {
+        first: first.place,
+        second: second.place,
+        pair,
+        body,
+    };
     Ok((put(program, place, shape), rest))
 }
 
 // Reads `t u v` after the word `iter`.
-fn iterator<'a>(text: &'a [u8], end: usize, place: usize, depth: usize, program: &mut Program, scope: &mut Scope) -> Result<(usize, &'a [u8]), Refusal>
-    requires room { ⌜ Room depth (vec-items (now program .subterms)) (vec-items (now program .types)) (namesOf (now scope)) ⌝ }
+fn iterator<'a>(
+    text: &'a [u8],
+    end: usize,
+    place: usize,
+    depth: usize,
+    program: &mut Program,
+    scope: &mut Scope,
+) -> Result<(usize, &'a [u8]), Refusal>
+    requires room { ⌜ HasRoom depth (now program) (now scope) ⌝ }
     requires deep { ⌜ depth < 128 ⌝ }
-    requires few { ⌜ length (vec-items (now program .subterms)) + depth < 2048 ⌝ }
-    ensures gives { λ r. ⌜ Gives end (TermHeld depth (vec-items (now (program .entry) .subterms)) (vec-items (now (program .entry) .types)) (namesOf (now (scope .entry))) (vec-items (now (program .exit) .subterms)) (vec-items (now (program .exit) .types)) (namesOf (now (scope .exit)))) (iterators (terms end (128 - (depth + 1))) place (suc (length (vec-items (now (program .entry) .subterms)) + depth)) (length (vec-items (now (program .entry) .types))) (lex end (now (text .entry)))) r ⌝ }
-    ensures kept { λ _. ⌜ bindersOf (namesOf (now (scope .exit)) .force) ≡ bindersOf (namesOf (now (scope .entry)) .force) ⌝ }
+    requires few { ⌜ begun depth (now program) < 2048 ⌝ }
+    ensures gives { λ r. ⌜ TermGives end depth (now (program .entry)) (now (scope .entry)) (now (program .exit)) (now (scope .exit)) (iterators (terms end (128 - (depth + 1))) place (suc (begun depth (now (program .entry)))) (signed (now (program .entry))) (lex end (now (text .entry)))) r ⌝ }
+    ensures kept { λ _. ⌜ inForceIn (now (scope .exit)) ≡ inForceIn (now (scope .entry)) ⌝ }
 {
     let (count, rest) = term(text, end, depth + 1, program, scope)?;
     let (step, rest) = term(rest, end, depth + 1, program, scope)?;
     let (base, rest) = term(rest, end, depth + 1, program, scope)?;
-    Ok((put(program, place, Shape::Iterator { count, step, base }), rest))
+    Ok((
+        put(program, place, Shape::Iterator { count, step, base }),
+        rest,
+    ))
 }

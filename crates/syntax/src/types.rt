@@ -19,6 +19,7 @@ use crate::scan::wrong_sign;
 use crate::signs::Joint;
 
 const DEPTH: usize = 64;
+
 const SIGNS: usize = 2048;
 
 // Reads the sign between the parts of a type, before which `count` type signs stand.
@@ -47,7 +48,13 @@ fn cell(joint: Joint, first: usize, second: usize) -> TypeCell
 }
 
 // Reads a type inside `depth` others, of which `open` have passed the sign between their parts.
-pub fn read_type<'a>(text: &'a [u8], end: usize, depth: usize, open: usize, types: &mut Vec<TypeCell>) -> Result<(usize, &'a [u8]), Refusal>
+pub fn read_type<'a>(
+    text: &'a [u8],
+    end: usize,
+    depth: usize,
+    open: usize,
+    types: &mut Vec<TypeCell>,
+) -> Result<(usize, &'a [u8]), Refusal>
     requires room { ⌜ 4096 ≤ vec-cap (now types) ⌝ }
     requires few { ⌜ length (vec-items (now types)) + «open» ≤ 2048 ⌝ }
     ensures gives { λ r. ⌜ Gives end (TypeHeld «open» (vec-items (now (types .entry))) (vec-items (now (types .exit)))) (type end (64 - depth) (length (vec-items (now (types .entry))) + «open») (lex end (now (text .entry)))) r ⌝ }
@@ -80,7 +87,11 @@ pub fn read_type<'a>(text: &'a [u8], end: usize, depth: usize, open: usize, type
 }
 
 // Reads `x:T.` after a backslash.
-pub fn function_head<'a>(text: &'a [u8], end: usize, types: &mut Vec<TypeCell>) -> Result<(Head<'a>, &'a [u8]), Refusal>
+pub fn function_head<'a>(
+    text: &'a [u8],
+    end: usize,
+    types: &mut Vec<TypeCell>,
+) -> Result<(Head<'a>, &'a [u8]), Refusal>
     requires room { ⌜ 4096 ≤ vec-cap (now types) ⌝ }
     requires few { ⌜ length (vec-items (now types)) ≤ 2048 ⌝ }
     ensures gives { λ r. ⌜ Gives end (HeadHeld (vec-items (now (types .entry))) (vec-items (now (types .exit)))) (functionHead end (length (vec-items (now (types .entry)))) (lex end (now (text .entry)))) r ⌝ }

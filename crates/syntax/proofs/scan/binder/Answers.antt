@@ -17,7 +17,7 @@ returns-then-is-empty c =
     let rest = c .skip-rest .result .now in
     let e = c .run .ensures .front in
     let none : 1 ≤ length (c .run .result .0 .now) → isName (c .run .result .0 .now) ≡ false =
-        λ h. elim (c .then-is-empty .came) [ then-is-empty·by·then-is-empty w ↦ absurd (grind (arith, tells, w .if-is-empty .taken)) | then-is-empty·by·else-is-empty·then-not-is-name w ↦ sym (w .is-name .ensures) ∙ w .if-not-is-name .taken ] in
+    λ h. elim (c .then-is-empty .came) [ then-is-empty·by·then-is-empty w ↦ absurd (grind (arith, tells, w .if-is-empty .taken)) | then-is-empty·by·else-is-empty·then-not-is-name w ↦ sym (w .is-name .ensures) ∙ w .if-not-is-name .taken ] in
     binder-miss (c .args .end) (c .args .text .now) rest (c .skip-rest .ensures) (λ h. ap isName (sym e) ∙ none (omega (arith, ap length e))) ∙ ap refused (sym (c .wrong-sign .ensures))
 
 pub returns : need.returns

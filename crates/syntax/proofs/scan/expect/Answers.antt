@@ -19,5 +19,5 @@ pub returns-in-rest : need.returns-in-rest
 returns-in-rest c =
     let rest = c .skip-rest .result .now in
     let other : 1 ≤ length rest → getD rest 0 0 ≡ c .args .mark → ⊥ =
-        λ h e. elim (c .in-rest .came) [ in-rest·by·then-rest-lt1 w ↦ search needs | in-rest·by·in-len1-up·else-b-mark w ↦ search needs ] in
+    λ h e. elim (c .in-rest .came) [ in-rest·by·then-rest-lt1 w ↦ search needs | in-rest·by·in-len1-up·else-b-mark w ↦ search needs ] in
     expect-miss (c .args .end) (c .args .text .now) (c .args .mark) rest (c .skip-rest .ensures) other ∙ ap refused (sym (c .wrong-sign .ensures))

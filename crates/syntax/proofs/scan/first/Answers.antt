@@ -46,8 +46,9 @@ pub returns-in-rest : need.returns-in-rest
 returns-in-rest c =
     let s = c .args .text .now in
     let none : 1 ≤ length s → NoTerm (getD s 0 0) = λ h. elim (c .in-rest .came) [
-      in-rest·by·then-text-lt1 w ↦ absurd (search needs)
-    | in-rest·by·else-text-lt1·in-rest··then-text-lt48 w ↦ record { letter = grind (arith, tells); digit = grind (arith, tells); s = λ e. search needs; lam = λ e. search needs; bracket = λ e. search needs; pair = λ e. search needs }
-    | in-rest·by·else-text-lt1·in-rest··else-text-lt48·else-text-lt58·then-text-lt97 w ↦ record { letter = grind (arith, tells); digit = grind (arith, tells); s = λ e. search needs; lam = λ e. search needs; bracket = λ e. search needs; pair = λ e. search needs }
-    | in-rest·by·else-text-lt1·in-rest··else-text-lt48·else-text-lt58·else-text-lt97·else-text-lt123 w ↦ record { letter = grind (arith, tells); digit = grind (arith, tells); s = λ e. search needs; lam = λ e. search needs; bracket = λ e. search needs; pair = λ e. search needs } ] in
+      | in-rest·by·then-text-lt1 w ↦ absurd (search needs)
+      | in-rest·by·else-text-lt1·in-rest··then-text-lt48 w ↦ record { letter = grind (arith, tells); digit = grind (arith, tells); s = λ e. search needs; lam = λ e. search needs; bracket = λ e. search needs; pair = λ e. search needs }
+      | in-rest·by·else-text-lt1·in-rest··else-text-lt48·else-text-lt58·then-text-lt97 w ↦ record { letter = grind (arith, tells); digit = grind (arith, tells); s = λ e. search needs; lam = λ e. search needs; bracket = λ e. search needs; pair = λ e. search needs }
+      | in-rest·by·else-text-lt1·in-rest··else-text-lt48·else-text-lt58·else-text-lt97·else-text-lt123 w ↦ record { letter = grind (arith, tells); digit = grind (arith, tells); s = λ e. search needs; lam = λ e. search needs; bracket = λ e. search needs; pair = λ e. search needs }
+    ] in
     λ fits part n m. by-none (c .args .end) s fits part n m (c .pre) none ∙ ap refused (sym (c .wrong-sign .ensures))

@@ -15,6 +15,6 @@ pub returns : need.returns
 returns c =
     let s = c .args .text .now in
     let stop : c .loop-n .n < length s → within (c .args .low) (c .args .high) (getD s (c .loop-n .n) 0) ≡ false =
-        λ h. elim (c .loop-n-test .came) [ then-loop-n-test·then-low-text·else-text-n w ↦ grind (arith, tells) | then-loop-n-test·else-low-text w ↦ grind (arith, tells) | else-loop-n-test w ↦ absurd (omega (arith, w .loop-n-test .left)) ] in
+    λ h. elim (c .loop-n-test .came) [ then-loop-n-test·then-low-text·else-text-n w ↦ grind (arith, tells) | then-loop-n-test·else-low-text w ↦ grind (arith, tells) | else-loop-n-test w ↦ absurd (omega (arith, w .loop-n-test .left)) ] in
     let e = run-is (within (c .args .low) (c .args .high)) s (c .loop-n .n) (c .loop-n .inv .0) (c .loop-n .inv .1) stop in
     record { front = c .split-at .ensures .front ∙ ap (λ n. take n s) (sym e); rest = c .split-at .ensures .back ∙ ap (λ n. drop n s) (sym e) }

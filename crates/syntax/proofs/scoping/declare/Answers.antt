@@ -22,8 +22,9 @@ returns c =
     let is : c .among .result ≡ among w old = c .among .ensures ∙ ap (λ xs. among w (map spelled xs)) (c .deref .ensures .value) in
     let sooner-or : Bool → Option Refusal = λ v. cond v (sooner (fault BoundTwice (c .args .binder .place)) (s .least)) (s .least) in
     let least : c .if-among .scope .1 .1 .1 .0 ≡ sooner-or (among w old) =
-        elim (c .if-among .came) [
-          then-among v ↦ ap (λ x. x .1 .1 .1 .0) (v .scope-is) ∙ v .sooner-scope .ensures ∙ ap sooner-or (sym (v .if-among .taken) ∙ is)
-        | else-among v ↦ ap (λ x. x .1 .1 .1 .0) (v .scope-is) ∙ ap sooner-or (sym (v .if-among .left) ∙ is) ] in
+    elim (c .if-among .came) [
+      | then-among v ↦ ap (λ x. x .1 .1 .1 .0) (v .scope-is) ∙ v .sooner-scope .ensures ∙ ap sooner-or (sym (v .if-among .taken) ∙ is)
+      | else-among v ↦ ap (λ x. x .1 .1 .1 .0) (v .scope-is) ∙ ap sooner-or (sym (v .if-among .left) ∙ is)
+    ] in
     let F : List Name → Option Refusal → Names = λ b f. record { bound = b; force = map inForce (vec-items (s .«in_force»)); least = f } in
     ap (λ b. F b (c .if-among .scope .1 .1 .1 .0)) put ∙ ap (F (old ++ (w ∷ []))) least

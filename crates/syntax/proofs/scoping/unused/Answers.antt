@@ -24,11 +24,12 @@ loop-name-again c =
     let f = c .args .least in
     let more : take (i + 1) xs ≡ take i xs ++ (x ∷ []) = take-more xs i x (c .loop-name-test .taken) ∙ ap (λ (y : InForce). take i xs ++ (y ∷ [])) (sym (c .name-item .is)) in
     let now : unused (map inForce (take (i + 1) xs)) f ≡ cond (x .used) (unused (map inForce (take i xs)) f) (sooner (fault Unused (x .place)) (unused (map inForce (take i xs)) f)) =
-        ap (λ s. unused (map inForce s) f) more ∙ ap (λ s. unused s f) (map-append inForce (take i xs) (x ∷ [])) ∙ unused-push (map inForce (take i xs)) (inForce x) f in
+    ap (λ s. unused (map inForce s) f) more ∙ ap (λ s. unused s f) (map-append inForce (take i xs) (x ∷ [])) ∙ unused-push (map inForce (take i xs)) (inForce x) f in
     let was : c .loop-name .least ≡ unused (map inForce (take i xs)) f = c .loop-name .inv in
     elim (c .if-not-name .came) [
-      then-not-name w ↦ w .least-is ∙ w .sooner-least .ensures ∙ ap (sooner (fault Unused (x .place))) was ∙ sym (now ∙ ap (λ v. cond v (unused (map inForce (take i xs)) f) (sooner (fault Unused (x .place)) (unused (map inForce (take i xs)) f))) (w .if-not-name .taken))
-    | else-not-name w ↦ w .least-is ∙ was ∙ sym (now ∙ ap (λ v. cond v (unused (map inForce (take i xs)) f) (sooner (fault Unused (x .place)) (unused (map inForce (take i xs)) f))) (w .if-not-name .left)) ]
+      | then-not-name w ↦ w .least-is ∙ w .sooner-least .ensures ∙ ap (sooner (fault Unused (x .place))) was ∙ sym (now ∙ ap (λ v. cond v (unused (map inForce (take i xs)) f) (sooner (fault Unused (x .place)) (unused (map inForce (take i xs)) f))) (w .if-not-name .taken))
+      | else-not-name w ↦ w .least-is ∙ was ∙ sym (now ∙ ap (λ v. cond v (unused (map inForce (take i xs)) f) (sooner (fault Unused (x .place)) (unused (map inForce (take i xs)) f))) (w .if-not-name .left))
+    ]
 
 pub returns : need.returns
 returns c = c .loop-name .inv ∙ ap (λ s. unused (map inForce s) (c .args .least)) (take-all (c .loop-name .name-index) (c .args .names .now) (c .loop-name-test .left))

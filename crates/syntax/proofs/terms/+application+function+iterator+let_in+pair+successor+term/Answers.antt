@@ -20,7 +20,7 @@ use Rattle.syntax.specs.Steps.{binderAt, Room}
 use Rattle.syntax.proofs.Lexing.{skipped-twice}
 use Rattle.syntax.proofs.HeadSteps.{both-are}
 use Rattle.syntax.proofs.ReadSteps.{gives-by, held-as, held-from, first-refused, first-full, first-read, succ-read, app-read, pair-read, iter-read, let-read, function-read, function-stops, let-stops, occur-bound, occur-kept}
-use Rattle.syntax.proofs.TermSteps.{kept-shut, entered, entered-two, force-length, room-part, room-body, room-pair, room-let, room-next, held-leaf, held-succ, held-app, held-pair, held-iter, held-function, held-let, visit-occ, visit-num}
+use Rattle.syntax.proofs.TermSteps.{kept-shut, entered, entered-two, force-length, room-body, room-pair, room-let, room-next, held-leaf, held-succ, held-app, held-pair, held-iter, held-function, held-let, visit-occ, visit-num}
 use Rattle.syntax.proofs.terms.+application+function+iterator+let_in+pair+successor+term.Needs as need
 use Rattle.syntax.proofs.terms.+application+function+iterator+let_in+pair+successor+term.Needs.{term-then-depth-ge-DEPTH·by·then-depth-ge-DEPTH, term-then-depth-ge-DEPTH·by·else-depth-ge-DEPTH·then-len-depth-ge-SUBTERMS}
 
@@ -104,9 +104,13 @@ successor-returns t c =
     let x = c .in-Continue-body .ensures tt in
     let a = x .gives .0 in
     record {
-      gives = ((succ p (a .0), a .1, a .2), succ-read end part p (suc (length subs + d)) (length cells) (length subs + (d + 1)) (length cells) (lex end (c .args .text .now)) _ a up refl (x .gives .1),
-        held-as d subs cells names _ c₁ n₁ _ _ _ _ (length s₁) _ (held-succ d subs cells names p s₁ c₁ n₁ a (c .in-Continue-body .body) (x .gives .2)) (c .put .ensures .subterms) (c .put .ensures .types) refl (c .put .ensures .at));
-      kept = x .kept }
+      gives = (
+        (succ p (a .0), a .1, a .2),
+        succ-read end part p (suc (length subs + d)) (length cells) (length subs + (d + 1)) (length cells) (lex end (c .args .text .now)) _ a up refl (x .gives .1),
+        held-as d subs cells names _ c₁ n₁ _ _ _ _ (length s₁) _ (held-succ d subs cells names p s₁ c₁ n₁ a (c .in-Continue-body .body) (x .gives .2)) (c .put .ensures .subterms) (c .put .ensures .types) refl (c .put .ensures .at),
+      );
+      kept = x .kept;
+    }
 
 pub application-returns : need.application-returns
 application-returns t c =
@@ -129,9 +133,13 @@ application-returns t c =
     let a = x .gives .0 in
     let b = y .gives .0 in
     record {
-      gives = ((app p (a .0) (b .0), b .1, b .2), app-read end part p (suc (length subs + d)) (length cells) (length subs + (d + 1)) (length cells) (lex end (c .args .text .now)) (lex end (c .in-Continue-function .rest .now)) a up refl (x .gives .1) (length s₁ + (d + 1)) (length c₁) b (x .gives .2 .counted) (x .gives .2 .signs) (lex end (c .in-Continue-argument .rest .now)) (lex end (c .in-Continue-rest .rest .now)) (y .gives .1) (c .in-Continue-rest .ensures tt),
-        held-as d subs cells names _ c₂ n₂ _ _ _ _ (length s₂) _ (held-app d subs cells names p s₁ c₁ n₁ a (c .in-Continue-function .function) (x .gives .2) s₂ c₂ n₂ b (c .in-Continue-argument .argument) (y .gives .2) (x .kept)) (c .put .ensures .subterms) (c .put .ensures .types) refl (c .put .ensures .at));
-      kept = y .kept ∙ x .kept }
+      gives = (
+        (app p (a .0) (b .0), b .1, b .2),
+        app-read end part p (suc (length subs + d)) (length cells) (length subs + (d + 1)) (length cells) (lex end (c .args .text .now)) (lex end (c .in-Continue-function .rest .now)) a up refl (x .gives .1) (length s₁ + (d + 1)) (length c₁) b (x .gives .2 .counted) (x .gives .2 .signs) (lex end (c .in-Continue-argument .rest .now)) (lex end (c .in-Continue-rest .rest .now)) (y .gives .1) (c .in-Continue-rest .ensures tt),
+        held-as d subs cells names _ c₂ n₂ _ _ _ _ (length s₂) _ (held-app d subs cells names p s₁ c₁ n₁ a (c .in-Continue-function .function) (x .gives .2) s₂ c₂ n₂ b (c .in-Continue-argument .argument) (y .gives .2) (x .kept)) (c .put .ensures .subterms) (c .put .ensures .types) refl (c .put .ensures .at),
+      );
+      kept = y .kept ∙ x .kept;
+    }
 
 pub pair-returns : need.pair-returns
 pair-returns t c =
@@ -154,9 +162,13 @@ pair-returns t c =
     let a = x .gives .0 in
     let b = y .gives .0 in
     record {
-      gives = ((pair p (a .0) (b .0), b .1, b .2), pair-read end part p (suc (length subs + d)) (length cells) (length subs + (d + 1)) (length cells) (lex end (c .args .text .now)) (lex end (c .in-Continue-first .rest .now)) a up refl (x .gives .1) (length s₁ + (d + 1)) (length c₁) b (x .gives .2 .counted) (x .gives .2 .signs) (lex end (c .in-Continue-rest .rest .now)) (lex end (c .in-Continue-second .rest .now)) (lex end (c .in-Continue-rest-2 .rest .now)) (c .in-Continue-rest .ensures tt) (y .gives .1) (c .in-Continue-rest-2 .ensures tt),
-        held-as d subs cells names _ c₂ n₂ _ _ _ _ (length s₂) _ (held-pair d subs cells names p s₁ c₁ n₁ a (c .in-Continue-first .first) (x .gives .2) s₂ c₂ n₂ b (c .in-Continue-second .second) (y .gives .2) (x .kept)) (c .put .ensures .subterms) (c .put .ensures .types) refl (c .put .ensures .at));
-      kept = y .kept ∙ x .kept }
+      gives = (
+        (pair p (a .0) (b .0), b .1, b .2),
+        pair-read end part p (suc (length subs + d)) (length cells) (length subs + (d + 1)) (length cells) (lex end (c .args .text .now)) (lex end (c .in-Continue-first .rest .now)) a up refl (x .gives .1) (length s₁ + (d + 1)) (length c₁) b (x .gives .2 .counted) (x .gives .2 .signs) (lex end (c .in-Continue-rest .rest .now)) (lex end (c .in-Continue-second .rest .now)) (lex end (c .in-Continue-rest-2 .rest .now)) (c .in-Continue-rest .ensures tt) (y .gives .1) (c .in-Continue-rest-2 .ensures tt),
+        held-as d subs cells names _ c₂ n₂ _ _ _ _ (length s₂) _ (held-pair d subs cells names p s₁ c₁ n₁ a (c .in-Continue-first .first) (x .gives .2) s₂ c₂ n₂ b (c .in-Continue-second .second) (y .gives .2) (x .kept)) (c .put .ensures .subterms) (c .put .ensures .types) refl (c .put .ensures .at),
+      );
+      kept = y .kept ∙ x .kept;
+    }
 
 pub iterator-returns : need.iterator-returns
 iterator-returns t c =
@@ -184,9 +196,13 @@ iterator-returns t c =
     let z = c .in-Continue-base .ensures tt in
     let e = z .gives .0 in
     record {
-      gives = ((iter p (a .0) (b .0) (e .0), e .1, e .2), iter-read end part p (suc (length subs + d)) (length cells) (length subs + (d + 1)) (length cells) (lex end (c .args .text .now)) (lex end (c .in-Continue-count .rest .now)) a up refl (x .gives .1) (length s₁ + (d + 1)) (length c₁) b (x .gives .2 .counted) (x .gives .2 .signs) (lex end (c .in-Continue-step .rest .now)) (lex end (c .in-Continue-base .rest .now)) (length s₂ + (d + 1)) (length c₂) e (y .gives .1) (y .gives .2 .counted) (y .gives .2 .signs) (z .gives .1),
-        held-as d subs cells names _ c₃ n₃ _ _ _ _ (length s₃) _ (held-iter d subs cells names p s₁ c₁ n₁ a (c .in-Continue-count .count) (x .gives .2) s₂ c₂ n₂ b (c .in-Continue-step .step) (y .gives .2) (x .kept) s₃ c₃ n₃ e (c .in-Continue-base .base) (z .gives .2) (y .kept)) (c .put .ensures .subterms) (c .put .ensures .types) refl (c .put .ensures .at));
-      kept = z .kept ∙ y .kept ∙ x .kept }
+      gives = (
+        (iter p (a .0) (b .0) (e .0), e .1, e .2),
+        iter-read end part p (suc (length subs + d)) (length cells) (length subs + (d + 1)) (length cells) (lex end (c .args .text .now)) (lex end (c .in-Continue-count .rest .now)) a up refl (x .gives .1) (length s₁ + (d + 1)) (length c₁) b (x .gives .2 .counted) (x .gives .2 .signs) (lex end (c .in-Continue-step .rest .now)) (lex end (c .in-Continue-base .rest .now)) (length s₂ + (d + 1)) (length c₂) e (y .gives .1) (y .gives .2 .counted) (y .gives .2 .signs) (z .gives .1),
+        held-as d subs cells names _ c₃ n₃ _ _ _ _ (length s₃) _ (held-iter d subs cells names p s₁ c₁ n₁ a (c .in-Continue-count .count) (x .gives .2) s₂ c₂ n₂ b (c .in-Continue-step .step) (y .gives .2) (x .kept) s₃ c₃ n₃ e (c .in-Continue-base .base) (z .gives .2) (y .kept)) (c .put .ensures .subterms) (c .put .ensures .types) refl (c .put .ensures .at),
+      );
+      kept = z .kept ∙ y .kept ∙ x .kept;
+    }
 
 pub function-declare-requires : need.function-declare-requires
 function-declare-requires t c κs =
@@ -282,9 +298,13 @@ function-returns t c =
     let all = function-read end part p (suc (length subs + d)) (length cells) (length subs + (d + 1)) (length c₁) (lex end (c .args .text .now)) (lex end (c .in-Continue-head .rest .now)) (lex end (c .in-Continue-body .rest .now)) (x .0) b (x .1) up (x .2 .counted) (y .gives .1) in
     let left = c .drop-guard-2 .ensures ∙ ap (shut h) (c .settle .ensures) in
     record {
-      gives = ((lam p f (x .0 .1) (b .0), b .1, b .2), all ∙ ap (λ (z : Binder). got (lam p z (x .0 .1) (b .0), b .1, b .2) (lex end (c .in-Continue-body .rest .now))) is,
-        held-as d subs cells names _ c₂ (leave h n₂) _ _ _ _ (length s₂) _ (held-function d subs cells names p f (x .0 .1) (c .in-Continue-head .head .annotation) c₁ s₂ c₂ n₂ b (c .in-Continue-body .body) (x .2 .put) (x .2 .at) body h high) (c .put .ensures .subterms) (c .put .ensures .types) left (c .put .ensures .at));
-      kept = ap (λ (n : Names). bindersOf (n .force)) left ∙ kept-shut h (names .force) (n₂ .force) (f ∷ []) high under }
+      gives = (
+        (lam p f (x .0 .1) (b .0), b .1, b .2),
+        all ∙ ap (λ (z : Binder). got (lam p z (x .0 .1) (b .0), b .1, b .2) (lex end (c .in-Continue-body .rest .now))) is,
+        held-as d subs cells names _ c₂ (leave h n₂) _ _ _ _ (length s₂) _ (held-function d subs cells names p f (x .0 .1) (c .in-Continue-head .head .annotation) c₁ s₂ c₂ n₂ b (c .in-Continue-body .body) (x .2 .put) (x .2 .at) body h high) (c .put .ensures .subterms) (c .put .ensures .types) left (c .put .ensures .at),
+      );
+      kept = ap (λ (n : Names). bindersOf (n .force)) left ∙ kept-shut h (names .force) (n₂ .force) (f ∷ []) high under;
+    }
 
 pub let-in-declare-requires : need.let-in-declare-requires
 let-in-declare-requires t c κs =
@@ -490,9 +510,13 @@ let-in-returns t c =
     let all = let-read end part p (suc (length subs + d)) (length cells) (length subs + (d + 1)) (length cells) (lex end (c .in-Continue-first .rest .now)) (lex end (c .in-Continue-pair .rest .now)) a up refl (x .gives .1) (length s₁ + (d + 1)) (length c₁) b (first .counted) (first .signs) (lex end (c .args .text .now)) (lex end (c .in-Continue-rest .rest .now)) (lex end (c .in-Continue-body .rest .now)) f g head (c .in-Continue-rest .ensures tt) (y .gives .1) in
     let left = c .drop-guard-2 .ensures ∙ ap (shut h) (c .settle .ensures) in
     record {
-      gives = ((split p f g (a .0) (b .0), b .1, b .2), all,
-        held-as d subs cells names _ c₂ (leave h n₂) _ _ _ _ (length s₂) _ (held-let d subs cells names p f g s₁ c₁ n₁ a (c .in-Continue-pair .pair) s₂ c₂ n₂ b (c .in-Continue-body .body) first same body h high) (c .put .ensures .subterms) (c .put .ensures .types) left (c .put .ensures .at));
-      kept = ap (λ (n : Names). bindersOf (n .force)) left ∙ kept-shut h (n₁ .force) (n₂ .force) (f ∷ g ∷ []) high under ∙ same }
+      gives = (
+        (split p f g (a .0) (b .0), b .1, b .2),
+        all,
+        held-as d subs cells names _ c₂ (leave h n₂) _ _ _ _ (length s₂) _ (held-let d subs cells names p f g s₁ c₁ n₁ a (c .in-Continue-pair .pair) s₂ c₂ n₂ b (c .in-Continue-body .body) first same body h high) (c .put .ensures .subterms) (c .put .ensures .types) left (c .put .ensures .at),
+      );
+      kept = ap (λ (n : Names). bindersOf (n .force)) left ∙ kept-shut h (n₁ .force) (n₂ .force) (f ∷ g ∷ []) high under ∙ same;
+    }
 
 pub term-first-requires : need.term-first-requires
 term-first-requires t c κs =
@@ -534,12 +558,13 @@ term-returns-in-Name t c =
     let few : length subs + d < 2048 = omega (arith, c .len .ensures, c .if-len-depth-ge-SUBTERMS .left, c .args .program .now .subterms .ok .0) in
     let p = c .place-of-place .result in
     let e = first-read end d (length subs + d) (length cells) text rest (c .skip-text .ensures) (c .in-Continue-first .first, c .in-Continue-first .rest) (c .in-Continue-first .ensures tt) (first.Name (c .in-Name .word)) p (c .if-depth-ge-DEPTH .left) few
-      (c .in-Name .is) (c .place-of-place .ensures) in
+    (c .in-Name .is) (c .place-of-place .ensures) in
     let w = c .in-Name .word .now in
     let leaf = held-leaf d subs cells names p (occ p w) (Variable (c .occur-binder .result)) (occur p w names) (c .pre) few (ap (λ (b : ℕ). push p (Variable b) subs) (c .occur-binder .ensures .binder)) refl (sym (visit-occ p w names)) (occur-bound p w names) in
     record {
       gives = ((occ p w, suc (length subs + d), length cells), e, held-as d subs cells names _ cells (occur p w names) _ _ _ _ (length subs) _ leaf (c .put .ensures .subterms) (c .put .ensures .types) (c .occur-binder .ensures .names) (c .put .ensures .at));
-      kept = ap (λ (n : Names). bindersOf (n .force)) (c .occur-binder .ensures .names) ∙ occur-kept p w names }
+      kept = ap (λ (n : Names). bindersOf (n .force)) (c .occur-binder .ensures .names) ∙ occur-kept p w names;
+    }
 
 pub term-returns-in-Number : need.term-returns-in-Number
 term-returns-in-Number t c =
@@ -553,12 +578,13 @@ term-returns-in-Number t c =
     let few : length subs + d < 2048 = omega (arith, c .len .ensures, c .if-len-depth-ge-SUBTERMS .left, c .args .program .now .subterms .ok .0) in
     let p = c .place-of-place .result in
     let e = first-read end d (length subs + d) (length cells) text rest (c .skip-text .ensures) (c .in-Continue-first .first, c .in-Continue-first .rest) (c .in-Continue-first .ensures tt) (first.Number (c .in-Number .number)) p (c .if-depth-ge-DEPTH .left) few
-      (c .in-Number .is) (c .place-of-place .ensures) in
+    (c .in-Number .is) (c .place-of-place .ensures) in
     let k = c .in-Number .number in
     let leaf = held-leaf d subs cells names p (num p k) (Number k) names (c .pre) few refl refl (sym (visit-num p k names)) refl in
     record {
       gives = ((num p k, suc (length subs + d), length cells), e, held-as d subs cells names _ cells names _ _ _ _ (length subs) _ leaf (c .put-in-Number .ensures .subterms) (c .put-in-Number .ensures .types) refl (c .put-in-Number .ensures .at));
-      kept = refl }
+      kept = refl;
+    }
 
 pub term-returns-in-Successor : need.term-returns-in-Successor
 term-returns-in-Successor t c =
@@ -572,7 +598,7 @@ term-returns-in-Successor t c =
     let few : length subs + d < 2048 = omega (arith, c .len .ensures, c .if-len-depth-ge-SUBTERMS .left, c .args .program .now .subterms .ok .0) in
     let p = c .place-of-place .result in
     let e = first-read end d (length subs + d) (length cells) text rest (c .skip-text .ensures) (c .in-Continue-first .first, c .in-Continue-first .rest) (c .in-Continue-first .ensures tt) first.Successor p (c .if-depth-ge-DEPTH .left) few
-      (c .in-Successor .is) (c .place-of-place .ensures) in
+    (c .in-Successor .is) (c .place-of-place .ensures) in
     record { gives = gives-by end _ _ _ (c .successor .result) e (c .successor .ensures .gives); kept = c .successor .ensures .kept }
 
 pub term-returns-in-Function : need.term-returns-in-Function
@@ -587,7 +613,7 @@ term-returns-in-Function t c =
     let few : length subs + d < 2048 = omega (arith, c .len .ensures, c .if-len-depth-ge-SUBTERMS .left, c .args .program .now .subterms .ok .0) in
     let p = c .place-of-place .result in
     let e = first-read end d (length subs + d) (length cells) text rest (c .skip-text .ensures) (c .in-Continue-first .first, c .in-Continue-first .rest) (c .in-Continue-first .ensures tt) first.Function p (c .if-depth-ge-DEPTH .left) few
-      (c .in-Function .is) (c .place-of-place .ensures) in
+    (c .in-Function .is) (c .place-of-place .ensures) in
     record { gives = gives-by end _ _ _ (c .function .result) e (c .function .ensures .gives); kept = c .function .ensures .kept }
 
 pub term-returns-in-Application : need.term-returns-in-Application
@@ -602,7 +628,7 @@ term-returns-in-Application t c =
     let few : length subs + d < 2048 = omega (arith, c .len .ensures, c .if-len-depth-ge-SUBTERMS .left, c .args .program .now .subterms .ok .0) in
     let p = c .place-of-place .result in
     let e = first-read end d (length subs + d) (length cells) text rest (c .skip-text .ensures) (c .in-Continue-first .first, c .in-Continue-first .rest) (c .in-Continue-first .ensures tt) first.Application p (c .if-depth-ge-DEPTH .left) few
-      (c .in-Application .is) (c .place-of-place .ensures) in
+    (c .in-Application .is) (c .place-of-place .ensures) in
     record { gives = gives-by end _ _ _ (c .application .result) e (c .application .ensures .gives); kept = c .application .ensures .kept }
 
 pub term-returns-in-Pair : need.term-returns-in-Pair
@@ -617,7 +643,7 @@ term-returns-in-Pair t c =
     let few : length subs + d < 2048 = omega (arith, c .len .ensures, c .if-len-depth-ge-SUBTERMS .left, c .args .program .now .subterms .ok .0) in
     let p = c .place-of-place .result in
     let e = first-read end d (length subs + d) (length cells) text rest (c .skip-text .ensures) (c .in-Continue-first .first, c .in-Continue-first .rest) (c .in-Continue-first .ensures tt) first.Pair p (c .if-depth-ge-DEPTH .left) few
-      (c .in-Pair .is) (c .place-of-place .ensures) in
+    (c .in-Pair .is) (c .place-of-place .ensures) in
     record { gives = gives-by end _ _ _ (c .pair .result) e (c .pair .ensures .gives); kept = c .pair .ensures .kept }
 
 pub term-returns-in-Let : need.term-returns-in-Let
@@ -632,7 +658,7 @@ term-returns-in-Let t c =
     let few : length subs + d < 2048 = omega (arith, c .len .ensures, c .if-len-depth-ge-SUBTERMS .left, c .args .program .now .subterms .ok .0) in
     let p = c .place-of-place .result in
     let e = first-read end d (length subs + d) (length cells) text rest (c .skip-text .ensures) (c .in-Continue-first .first, c .in-Continue-first .rest) (c .in-Continue-first .ensures tt) first.Let p (c .if-depth-ge-DEPTH .left) few
-      (c .in-Let .is) (c .place-of-place .ensures) in
+    (c .in-Let .is) (c .place-of-place .ensures) in
     record { gives = gives-by end _ _ _ (c .let-in .result) e (c .let-in .ensures .gives); kept = c .let-in .ensures .kept }
 
 pub term-returns-in-Iterator : need.term-returns-in-Iterator
@@ -647,5 +673,5 @@ term-returns-in-Iterator t c =
     let few : length subs + d < 2048 = omega (arith, c .len .ensures, c .if-len-depth-ge-SUBTERMS .left, c .args .program .now .subterms .ok .0) in
     let p = c .place-of-place .result in
     let e = first-read end d (length subs + d) (length cells) text rest (c .skip-text .ensures) (c .in-Continue-first .first, c .in-Continue-first .rest) (c .in-Continue-first .ensures tt) first.Iterator p (c .if-depth-ge-DEPTH .left) few
-      (c .in-Iterator .is) (c .place-of-place .ensures) in
+    (c .in-Iterator .is) (c .place-of-place .ensures) in
     record { gives = gives-by end _ _ _ (c .iterator .result) e (c .iterator .ensures .gives); kept = c .iterator .ensures .kept }

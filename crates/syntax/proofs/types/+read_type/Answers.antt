@@ -141,5 +141,5 @@ returns-in-rest t c =
     let rest = c .skip-rest .result .now in
     let n = length (vec-items (c .args .types .now)) + c .args .«open» in
     let none : 1 ≤ length rest → (getD rest 0 0 ≡ 78 → ⊥) × (getD rest 0 0 ≡ 40 → ⊥) =
-        λ h. elim (c .in-rest .came) [ in-rest·by·then-rest-lt1 w ↦ absurd (search needs) | in-rest·by·else-rest-lt1·in-rest· w ↦ (λ x. search needs, λ x. search needs) ] in
+    λ h. elim (c .in-rest .came) [ in-rest·by·then-rest-lt1 w ↦ absurd (search needs) | in-rest·by·else-rest-lt1·in-rest· w ↦ (λ x. search needs, λ x. search needs) ] in
     record { gives = type-other (c .args .end) (c .args .text .now) rest (c .skip-rest .ensures) (c .args .depth) n none ∙ ap refused (sym (c .wrong-sign .ensures)); room = refl }

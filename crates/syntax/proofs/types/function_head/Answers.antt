@@ -17,4 +17,5 @@ returns c =
     let h = a .2 in
     record {
       gives = ((x .0, a .0 .0, a .0 .1), function-head-read end n (n + 0) (lex end (c .args .text .now)) (lex end (c .in-Continue-binder .rest .now)) (lex end (c .in-Continue-rest .rest .now)) (lex end (c .in-Continue-annotation .rest .now)) (lex end (c .in-Continue-rest-2 .rest .now)) (x .0) (a .0) (add-zero n) (x .1) (c .in-Continue-rest .ensures tt) (a .1) (c .in-Continue-rest-2 .ensures tt), record { binder = x .2; put = h .put; at = h .at; counted = omega (arith, h .counted); few = h .few });
-      room = c .read-type .ensures .room }
+      room = c .read-type .ensures .room;
+    }
