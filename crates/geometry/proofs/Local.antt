@@ -10,20 +10,20 @@ use Rattle.std.proofs.shelf.Tests.{eq-eqb, eqb-true, cond-both}
 use Rattle.calculus.specs.Terms.{Term, var, num, succ, lam, app, pair, split, iter, free, without, nodes}
 use Rattle.geometry.specs.Network.{l1, l2, l3, Env, put, Wire, EachVariable, crossings, entered, wires}
 
-each-left : (P : ℕ → Type 0) (xs ys : List ℕ) → EachVariable P (xs ++ ys) → EachVariable P xs
+pub each-left : (P : ℕ → Type 0) (xs ys : List ℕ) → EachVariable P (xs ++ ys) → EachVariable P xs
 each-left P [] ys h = tt
 each-left P (x ∷ xs) ys h = (h .0, each-left P xs ys (h .1))
 
-each-right : (P : ℕ → Type 0) (xs ys : List ℕ) → EachVariable P (xs ++ ys) → EachVariable P ys
+pub each-right : (P : ℕ → Type 0) (xs ys : List ℕ) → EachVariable P (xs ++ ys) → EachVariable P ys
 each-right P [] ys h = h
 each-right P (x ∷ xs) ys h = each-right P xs ys (h .1)
 
-each-map : (P Q : ℕ → Type 0) → ((y : ℕ) → P y → Q y) → (xs : List ℕ) → EachVariable P xs → EachVariable Q xs
+pub each-map : (P Q : ℕ → Type 0) → ((y : ℕ) → P y → Q y) → (xs : List ℕ) → EachVariable P xs → EachVariable Q xs
 each-map P Q f [] h = tt
 each-map P Q f (x ∷ xs) h = (f x (h .0), each-map P Q f xs (h .1))
 
 -- under a binder of x
-each-bound : (P Q : ℕ → Type 0) (x : ℕ) → Q x → ((y : ℕ) → P y → Q y) → (xs : List ℕ) → EachVariable P (without x xs) → EachVariable Q xs
+pub each-bound : (P Q : ℕ → Type 0) (x : ℕ) → Q x → ((y : ℕ) → P y → Q y) → (xs : List ℕ) → EachVariable P (without x xs) → EachVariable Q xs
 each-bound P Q x q f [] h = tt
 each-bound P Q x q f (y ∷ ys) h = go (each-bound P Q x q f ys) (eqb x y) refl
   where
@@ -32,20 +32,20 @@ each-bound P Q x q f (y ∷ ys) h = go (each-bound P Q x q f ys) (eqb x y) refl
     go k false e = let g : P y × EachVariable P (without x ys) = rw e at h in (f y (g .0), k (g .1))
 
 -- e and f start y at the same port
-abbrev Same : Env → Env → ℕ → Type 0
+abbrev pub Same : Env → Env → ℕ → Type 0
 Same e f y = e y ≡ f y
 
 same-put : (e f : Env) (x p y : ℕ) → Same e f y → Same (put e x p) (put f x p) y
 same-put e f x p y h = ap (λ (q : ℕ). cond (eqb x y) p q) h
 
-same-bound : (e f : Env) (x p : ℕ) (xs : List ℕ) → EachVariable (Same e f) (without x xs) → EachVariable (Same (put e x p) (put f x p)) xs
+pub same-bound : (e f : Env) (x p : ℕ) (xs : List ℕ) → EachVariable (Same e f) (without x xs) → EachVariable (Same (put e x p) (put f x p)) xs
 same-bound e f x p xs h = each-bound (Same e f) (Same (put e x p) (put f x p)) x (rw (eq-eqb x x refl) refl) (same-put e f x p) xs h
 
-same-entered : (xs : List ℕ) (j : ℕ) (e f : Env) (ys : List ℕ) → EachVariable (Same e f) ys → EachVariable (Same (entered xs j e) (entered xs j f)) ys
+pub same-entered : (xs : List ℕ) (j : ℕ) (e f : Env) (ys : List ℕ) → EachVariable (Same e f) ys → EachVariable (Same (entered xs j e) (entered xs j f)) ys
 same-entered [] j e f ys h = h
 same-entered (x ∷ xs) j e f ys h = same-entered xs (suc j) (put e x (l2 j)) (put f x (l2 j)) ys (each-map (Same e f) (Same (put e x (l2 j)) (put f x (l2 j))) (same-put e f x (l2 j)) ys h)
 
-same-crossings : (xs : List ℕ) (j : ℕ) (e f : Env) → EachVariable (Same e f) xs → crossings xs j e ≡ crossings xs j f
+pub same-crossings : (xs : List ℕ) (j : ℕ) (e f : Env) → EachVariable (Same e f) xs → crossings xs j e ≡ crossings xs j f
 same-crossings [] j e f h = refl
 same-crossings (x ∷ xs) j e f h = rw (h .0, same-crossings xs (suc j) e f (h .1)) refl
 
@@ -78,13 +78,13 @@ local (iter t u v) k r e f h =
 abbrev pub Under : ℕ → Env → ℕ → Type 0
 Under n e y = e y < 3 * n
 
-under-put : (n : ℕ) (e : Env) (x p : ℕ) → p < 3 * n → (y : ℕ) → Under n e y → Under n (put e x p) y
+pub under-put : (n : ℕ) (e : Env) (x p : ℕ) → p < 3 * n → (y : ℕ) → Under n e y → Under n (put e x p) y
 under-put n e x p g y h = cond-both (eqb x y) p (e y) (λ q. q < 3 * n) (λ z. g) (λ z. h)
 
-under-bound : (n : ℕ) (e : Env) (x p : ℕ) → p < 3 * n → (xs : List ℕ) → EachVariable (Under n e) (without x xs) → EachVariable (Under n (put e x p)) xs
+pub under-bound : (n : ℕ) (e : Env) (x p : ℕ) → p < 3 * n → (xs : List ℕ) → EachVariable (Under n e) (without x xs) → EachVariable (Under n (put e x p)) xs
 under-bound n e x p g xs h = each-bound (Under n e) (Under n (put e x p)) x (rw (eq-eqb x x refl) g) (under-put n e x p g) xs h
 
-under-entered : (n : ℕ) (xs : List ℕ) (j : ℕ) (e : Env) (ys : List ℕ) → j + length xs ≤ n → EachVariable (Under n e) ys → EachVariable (Under n (entered xs j e)) ys
+pub under-entered : (n : ℕ) (xs : List ℕ) (j : ℕ) (e : Env) (ys : List ℕ) → j + length xs ≤ n → EachVariable (Under n e) ys → EachVariable (Under n (entered xs j e)) ys
 under-entered n [] j e ys l h = h
 under-entered n (x ∷ xs) j e ys l h = under-entered n xs (suc j) (put e x (l2 j)) ys (omega arith) (each-map (Under n e) (Under n (put e x (l2 j))) (under-put n e x (l2 j) (omega arith)) ys h)
 

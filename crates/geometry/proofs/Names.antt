@@ -33,15 +33,15 @@ names-free (ty-pair {Γ = Γ} {Δ = Δ} d e) = rw (names-append Γ Δ, names-fre
 names-free (ty-split {Γ = Γ} {Δ₂ = Δ₂} d e p q) = rw (names-append Γ Δ₂, names-pick q, names-pick p, names-free d, names-free e) refl
 names-free (ty-iter {Γ = Γ} {Δ = Δ} {Θ = Θ} d e f) = rw (names-append Γ (Δ ++ Θ), names-append Δ Θ, names-free d, names-free e, names-free f) refl
 
-Apart-left : (x : ℕ) (xs ys : List ℕ) → Apart x (xs ++ ys) → Apart x xs
+pub Apart-left : (x : ℕ) (xs ys : List ℕ) → Apart x (xs ++ ys) → Apart x xs
 Apart-left x [] ys h = tt
 Apart-left x (y ∷ xs) ys h = (h .0, Apart-left x xs ys (h .1))
 
-Distinct-left : (xs ys : List ℕ) → Distinct (xs ++ ys) → Distinct xs
+pub Distinct-left : (xs ys : List ℕ) → Distinct (xs ++ ys) → Distinct xs
 Distinct-left [] ys h = tt
 Distinct-left (x ∷ xs) ys h = (Apart-left x xs ys (h .0), Distinct-left xs ys (h .1))
 
-Distinct-right : (xs ys : List ℕ) → Distinct (xs ++ ys) → Distinct ys
+pub Distinct-right : (xs ys : List ℕ) → Distinct (xs ++ ys) → Distinct ys
 Distinct-right [] ys h = h
 Distinct-right (x ∷ xs) ys h = Distinct-right xs ys (h .1)
 

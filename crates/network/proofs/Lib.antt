@@ -1,0 +1,9 @@
+pub mod Uses
+pub mod Sizes
+pub mod Opened
+pub mod Counting
+pub mod Laid
+pub mod Gathered
+pub mod Crossed
+pub mod Moved
+pub mod Wired
