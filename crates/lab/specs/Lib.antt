@@ -6,4 +6,5 @@ pub mod Refusals
 pub mod Listings
 pub mod Bounds
 pub mod Memories
+pub mod Opening
 pub mod Outcomes

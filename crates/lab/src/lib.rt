@@ -10,6 +10,7 @@ mod worked;
 
 pub use ends::End;
 pub use ends::EndText;
+pub use listing::LINE;
 pub use listing::Listing;
 pub use listing::show_outcome;
 pub use memory::Memory;

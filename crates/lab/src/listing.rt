@@ -19,6 +19,9 @@ use token_machine::show;
 // The most steps that a listing takes.
 const LONGEST: u32 = 100_000;
 
+// A buffer of so many bytes takes every line of a token in the memory that the programs lend.
+pub const LINE: usize = 18_000;
+
 // The listing of a walk, line by line.
 #[derive(Drop)]
 pub struct Listing<'a> {
