@@ -1,14 +1,18 @@
 -- Accepted programs without iterator are such as come home.
 use mathlib.Core.Path.{_≡_, refl}
 use mathlib.Core.List.{List, [], _∷_, _++_}
-use Prim.Native.Nat.{ℕ, suc, _+_, _*_, _≤_, max}
+use Prim.Native.Nat.{ℕ, suc, _+_, _*_, _≤_, min, max}
 use native.Mathlib.Omega.{arith}
-use Rattle.calculus.specs.Terms.{Term, var, num, succ, lam, app, pair, split, iter, subterms, iterators, nodes}
+use Rattle.calculus.specs.Terms.{Term, var, num, succ, lam, app, pair, split, iter, subterms, successors, iterators, nodes}
+use Rattle.calculus.specs.Typing.{weight, tallest}
 use Rattle.syntax.specs.Trees.{Name, Binder, Tree, occ, num as number, succ as successor, lam as function, app as apply, pair as both, split as part, iter as repeat, erase}
 use Rattle.syntax.specs.Grammar.{size, largest, Within}
 use Rattle.syntax.specs.Names.{resolve}
 use Rattle.geometry.specs.Derivations.{NumbersWithin}
 use Rattle.geometry.specs.Network.{network}
+use Rattle.cells.specs.Ports.{Node}
+use Rattle.grammar.specs.Exactness.{Accepted}
+use Rattle.token_machine.specs.Tokens.{capacities}
 use Rattle.homecoming.specs.Home.{Home}
 use Rattle.homecoming.specs.Programs.{Program}
 use Rattle.homecoming.proofs.Programs.{networked, programs-come-home}
@@ -25,6 +29,17 @@ few-nodes (app t u) h = let a = few-nodes t (omega arith) in let b = few-nodes u
 few-nodes (pair t u) h = let a = few-nodes t (omega arith) in let b = few-nodes u (omega arith) in omega arith
 few-nodes (split x y t u) h = let a = few-nodes t (omega arith) in let b = few-nodes u (omega arith) in omega arith
 few-nodes (iter t u v) h = absurd (omega arith)
+
+-- it has no more S signs than sub-terms
+few-successors : (t : Term) → successors t ≤ subterms t
+few-successors (var x) = omega arith
+few-successors (num n) = omega arith
+few-successors (succ t) = let a = few-successors t in omega arith
+few-successors (lam x T t) = let a = few-successors t in omega arith
+few-successors (app t u) = let a = few-successors t in let b = few-successors u in omega arith
+few-successors (pair t u) = let a = few-successors t in let b = few-successors u in omega arith
+few-successors (split x y t u) = let a = few-successors t in let b = few-successors u in omega arith
+few-successors (iter t u v) = let a = few-successors t in let b = few-successors u in let c = few-successors v in omega arith
 
 -- the term of a tree has as many sub-terms as the tree
 sizes : (σ : List Binder) (t : Tree Name) → subterms (erase (resolve σ t)) ≡ size t
@@ -67,3 +82,12 @@ accepted-come-home text t a none rest rs enough =
       odd = home .odd;
       soon = home .soon;
     }
+
+-- the limits on the memory in use are above what an accepted text can need
+pub session-home : (text : List ℕ) (t : Tree Name) (a : Accepted text t) → iterators (termOf t) ≡ 0 → (rest : List Node) (letters iters datas shelves : ℕ) → tallest (a .derived .derived) ≤ letters → 1 + successors (termOf t) ≤ datas → Home (network (termOf t) ++ rest) (capacities letters iters datas shelves) (weight (a .derived .derived))
+session-home text t a none rest letters iters datas shelves high signs =
+    let low = a .derived .low in
+    let few = few-successors (termOf t) in
+    let same = sizes [] t in
+    let most = a .within .subterms in
+    accepted-come-home text t a none rest (capacities letters iters datas shelves) (record { letters = omega arith; datas = omega arith })

@@ -8,13 +8,15 @@ use denote.Ref.{now}
 use Rattle.std.specs.declared.result.Result.{Result}
 use Rattle.std.specs.declared.result.Result.the-variants.{Ok, Err}
 use Rattle.cells.specs.Ports.{Node, nodesOf}
-use Rattle.calculus.specs.Terms.{Term, nodes}
+use Rattle.calculus.specs.Terms.{Term, successors, iterators, nodes}
+use Rattle.calculus.specs.Typing.{weight, tallest}
 use Rattle.syntax.specs.declared.refusal.Fault.the-variants.{FewCells}
 use Rattle.syntax.specs.declared.refusal.Refusal.{Refusal}
 use Rattle.syntax.specs.Trees.{Name, Tree}
 use Rattle.syntax.specs.Names.{fault}
 use Rattle.geometry.specs.Network.{network, cellOf}
 use Rattle.grammar.specs.Exactness.{Accepted, Rejected}
+use Rattle.homecoming.specs.Home.{Home}
 use Rattle.machine.specs.declared.walks.Walk.{Walk}
 use Rattle.token.specs.declared.memory.DataCell.{DataCell}
 use Rattle.token.specs.State.{opened}
@@ -44,6 +46,8 @@ pub record Opens (text : List ℕ) (m : Memory) (first : DataCell) (w : Walk Tok
   -- the walk stands at the opening, at sum 0
   pub state : stateOf (w .machine) ≡ opened (network (termOf tree) ++ behind (termOf tree) m) (roomsIn m) first
   pub sum : w .sum .value ≡ pos 0
+  -- without iterator it comes home from the question, if there is a letter cell for each unit of the greatest type height and a data cell more than S signs
+  pub home : iterators (termOf tree) ≡ 0 → tallest (accepted .derived .derived) ≤ length (now (m .letters)) → 1 + successors (termOf tree) ≤ length (now (m .datas)) → Home (network (termOf tree) ++ behind (termOf tree) m) (roomsIn m) (weight (accepted .derived .derived))
 
 -- why a text is refused in memory of so many cells
 pub data Refuses (text : List ℕ) (cells : ℕ) : Refusal → Type 0 where
