@@ -17,7 +17,8 @@ use Rattle.homecoming.specs.Home.{Home}
 use Rattle.homecoming.specs.Programs.{Program}
 use Rattle.homecoming.proofs.Programs.{networked, programs-come-home}
 use Rattle.homecoming.proofs.Further.{further-nodes-do-no-harm}
-use Rattle.lab.specs.Homecoming.{termOf, AcceptedComeHome}
+use Rattle.network.specs.Building.{termOf}
+use Rattle.lab.specs.Homecoming.{AcceptedComeHome}
 
 -- without iterator a term makes at most a node for each sub-term
 few-nodes : (t : Term) → iterators t ≡ 0 → nodes t ≤ subterms t

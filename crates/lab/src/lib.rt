@@ -2,6 +2,7 @@
 mod ends;
 mod listing;
 mod memory;
+mod opening;
 mod performing;
 mod refusals;
 mod stages;
@@ -15,6 +16,7 @@ pub use listing::Listing;
 pub use listing::show_outcome;
 pub use memory::Memory;
 pub use memory::Reserve;
+pub use opening::open;
 pub use performing::perform;
 pub use refusals::Refused;
 pub use refusals::RefusedText;

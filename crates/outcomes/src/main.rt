@@ -8,7 +8,7 @@ use lab::Reserve;
 use lab::open;
 use lab::show_outcome;
 use lab::show_text;
-use language::workspace::Workspace;
+use network::Builder;
 use std::error::AnyError;
 use std::io::BufWriter;
 use std::io::Read;
@@ -31,10 +31,10 @@ fn line_end(texts: &[u8]) -> usize
 }
 
 // Writes how the program of one text ends to the front of the line, and returns the length.
-fn tell(workspace: &mut Workspace, reserve: &mut Reserve, text: &[u8], line: &mut [u8]) -> Result<usize, AnyError>
+fn tell(builder: &mut Builder, reserve: &mut Reserve, text: &[u8], line: &mut [u8]) -> Result<usize, AnyError>
     ensures { λ r. ⌜ made r (λ n. n ≤ length (now (line .exit))) ⌝ }
 {
-    let shown = match open(workspace, text, reserve.lend(), DataCell::Question) {
+    let shown = match open(builder, text, reserve.lend(), DataCell::Question) {
         Ok(mut walk) => show_outcome(&mut walk, line),
         Err(refused) => show_text(&refused, line),
     };
@@ -46,13 +46,13 @@ fn tell(workspace: &mut Workspace, reserve: &mut Reserve, text: &[u8], line: &mu
 
 fn tell_all<W: Write>(out: &mut W, rt: &LibcRuntime, texts: &[u8]) -> Result<(), AnyError> {
     let heap = rt.alloc();
-    let mut workspace = Workspace::new(heap)?;
+    let mut builder = Builder::new(heap)?;
     let mut reserve = Reserve::new(heap)?;
     let mut line = vec![in heap; 0; LINE]?;
     let mut rest = texts;
     while !rest.is_empty() {
         let end = line_end(rest);
-        let n = tell(&mut workspace, &mut reserve, &rest[0..end], &mut line)?;
+        let n = tell(&mut builder, &mut reserve, &rest[0..end], &mut line)?;
         out.write_all(&line[0..n])?;
         rest = if end < rest.len() { &rest[end + 1..] } else { &[] };
     }

@@ -13,7 +13,7 @@ use lab::RefusedText;
 use lab::Reserve;
 use lab::open;
 use lab::show_text;
-use language::workspace::Workspace;
+use network::Builder;
 use std::error::AnyError;
 use std::io::BufWriter;
 use std::io::Read;
@@ -44,12 +44,12 @@ fn write_all_lines<W: Write>(out: &mut W, listing: &mut Listing<'_>, line: &mut 
 
 fn trace<W: Write>(out: &mut W, rt: &LibcRuntime) -> Result<(), AnyError> {
     let heap = rt.alloc();
-    let mut workspace = Workspace::new(heap)?;
+    let mut builder = Builder::new(heap)?;
     let mut reserve = Reserve::new(heap)?;
     let mut line = vec![in heap; 0; LINE]?;
     let mut text = Vec::new(heap);
     let _ = rt.stdin().take(MOST).read_to_end(&mut text)?;
-    match open(&mut workspace, &text, reserve.lend(), DataCell::Question) {
+    match open(&mut builder, &text, reserve.lend(), DataCell::Question) {
         Ok(walk) => write_all_lines(out, &mut Listing::new(walk), &mut line),
         Err(refused) => {
             if let Ok(n) = show_text(&refused, &mut line) {

@@ -7,7 +7,7 @@ use lab::Reserve;
 use lab::open;
 use lab::perform;
 use lab::show_text;
-use language::workspace::Workspace;
+use network::Builder;
 use machine::Grant;
 use machine::Walk;
 use plan::Plan;
@@ -87,11 +87,11 @@ fn act<W: Write>(out: &mut W, rt: &LibcRuntime, walk: &mut Walk<Token<'_>>, call
 
 fn follow<W: Write>(out: &mut W, rt: &LibcRuntime, plan: &Plan) -> Result<(), AnyError> {
     let heap = rt.alloc();
-    let mut workspace = Workspace::new(heap)?;
+    let mut builder = Builder::new(heap)?;
     let mut reserve = Reserve::new(heap)?;
     let mut text = Vec::new(heap);
     let _ = rt.stdin().take(MOST).read_to_end(&mut text)?;
-    match open(&mut workspace, &text, reserve.lend(), plan.first) {
+    match open(&mut builder, &text, reserve.lend(), plan.first) {
         Ok(mut walk) => act(out, rt, &mut walk, &plan.calls)?,
         Err(refused) => {
             let mut line = vec![in heap; 0; LINE]?;
