@@ -4,7 +4,11 @@ ghost use Rattle.grammar.specs.Naming.{NamesRight, NamesLeast};
 ghost use Rattle.grammar.specs.Dividing.{DividedExactly};
 ghost use Rattle.grammar.specs.Exactness.{AcceptedExactly, AcceptedOne, RejectedExactly};
 ghost use Rattle.grammar.specs.Examples.{KnownAnswers};
+ghost use Rattle.grammar.specs.Verdicts.{Verdict};
 ghost use Rattle.grammar.specs.Typings.{InferredDerived, DerivedInferred, DerivedLinear, FirstFault, UniqueTypes, SumsDerived};
+use language::program::Program;
+use language::workspace::Workspace;
+use syntax::refusal::Refusal;
 
 // A text has one division into signs, and that is what is read.
 pub fn texts_divided_exactly()
@@ -49,3 +53,11 @@ pub fn texts_accepted_exactly()
 pub fn known_answers()
     ensures { λ _. ⌜ KnownAnswers ⌝ }
 {}
+
+// Checks a text: on acceptance it spells one term within the limits, the empty context derives that term at N, and the program stands for it;
+// else no term is accepted of it, and the refusal is that of the first question answered with no.
+pub fn accept<'a>(text: &[u8], workspace: &'a mut Workspace) -> Result<Program<'a>, Refusal>
+    ensures { λ r. ⌜ Verdict (now (text .entry)) r ⌝ }
+{
+    workspace.check(text)
+}

@@ -7,3 +7,5 @@ pub mod Gathered
 pub mod Crossed
 pub mod Moved
 pub mod Wired
+pub mod Texts
+pub mod Building

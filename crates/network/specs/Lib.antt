@@ -2,3 +2,4 @@ pub mod Parts
 pub mod Plan
 pub mod Laying
 pub mod Wiring
+pub mod Building

@@ -1,6 +1,9 @@
-// From a checked program to its network, in cells that the host lends.
-pub mod lay;
-pub mod part;
-pub mod ports;
-pub mod plan;
-pub mod wire;
+// From a text to its network, in cells that the host lends.
+pub mod build;
+mod lay;
+mod part;
+mod plan;
+mod ports;
+mod wire;
+
+pub use build::Builder;

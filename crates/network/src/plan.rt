@@ -92,17 +92,18 @@ fn count_of(parts: &[Part], shape: Shape) -> Count
     }
 }
 
-/// Counts every sub-term, parts before wholes.
-pub fn plan(subs: &[Subterm], parts: &mut Vec<Part>)
-    requires { ⌜ length (now subs) ≤ vec-cap (now parts) ⌝ }
-    ensures { λ _. ⌜ Planned (now (subs .entry)) (vec-items (now (parts .exit))) ⌝ }
+/// Counts the first `count` sub-terms, parts before wholes.
+pub fn plan(subs: &[Subterm], count: usize, parts: &mut Vec<Part>)
+    requires there { ⌜ count ≤ length (now subs) ⌝ }
+    requires room { ⌜ count ≤ vec-cap (now parts) ⌝ }
+    ensures planned { λ _. ⌜ Planned (now (subs .entry)) (vec-items (now (parts .exit))) ⌝ }
+    ensures all { λ _. ⌜ length (vec-items (now (parts .exit))) ≡ count ⌝ }
+    ensures room { λ _. ⌜ vec-cap (now (parts .exit)) ≡ vec-cap (now (parts .entry)) ⌝ }
 {
     parts.clear();
-    for sub in subs {
-        let count = count_of(parts, sub.shape);
-        parts.push_reserved(Part {
-            shape: sub.shape,
-            count,
-        });
+    for i in 0..count {
+        let shape = subs[i].shape;
+        let count = count_of(parts, shape);
+        parts.push_reserved(Part { shape, count });
     }
 }
