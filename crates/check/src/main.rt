@@ -17,7 +17,10 @@ fn report(rt: &impl Print, facts: Facts) -> Result<(), AnyError> {
         height,
         weight,
     } = facts;
-    println!(rt, "subterms={subterms} iterators={iterators} successors={successors} height={height} weight={weight}")?;
+    println!(
+        rt,
+        "subterms={subterms} iterators={iterators} successors={successors} height={height} weight={weight}"
+    )?;
     Ok(())
 }
 
@@ -37,3 +40,6 @@ fn main(rt: LibcRuntime) -> Result<(), AnyError> {
         Err(refusal) => refuse(&rt, refusal),
     }
 }
+
+#[cfg(test)]
+mod tests;

@@ -164,7 +164,7 @@ module _ (subs : List Subterm) (i : ℕ) (x : Subterm) (at : getD subs i blank �
               infers = answers e (w .a) (w .b) _ _ (one .infers) (two .infers);
               left = types-last (two .grown) _ f (one .denotes);
               right = two .denotes;
-              added = and-then (of-typed one) (of-typed two)
+              added = and-then (of-typed one) (of-typed two);
             }
 
         pub record Asks : Type 0 where
@@ -182,7 +182,7 @@ module _ (subs : List Subterm) (i : ℕ) (x : Subterm) (at : getD subs i blank �
               left = (_, w .left);
               right = (_, w .right);
               cell = type-space subs i m₀ r _ _ m₂ (w .added) (omega arith);
-              typing = typing-space subs i m₀ r _ _ m₂ (w .added) (omega arith)
+              typing = typing-space subs i m₀ r _ _ m₂ (w .added) (omega arith);
             }
 
         -- the rule is asked at m, where at most one more cell stands
@@ -253,7 +253,7 @@ module _ (subs : List Subterm) (i : ℕ) (x : Subterm) (at : getD subs i blank �
                 count = (_, types-last (last .grown) _ f (types-last (two .grown) _ f (one .denotes)));
                 step = (_, types-last (last .grown) _ g (two .denotes));
                 base = (_, last .denotes);
-                typing = typing-space subs i m₀ r _ _ m₃ (and-then (and-then (of-typed one) (of-typed two)) (of-typed last)) (simp length-append (omega (arith, judged-all (r .env) (w .a), judged-all (r .env) (w .b), judged-all (r .env) (w .c), three-size r)))
+                typing = typing-space subs i m₀ r _ _ m₃ (and-then (and-then (of-typed one) (of-typed two)) (of-typed last)) (simp length-append (omega (arith, judged-all (r .env) (w .a), judged-all (r .env) (w .b), judged-all (r .env) (w .c), three-size r)));
               }
 
           pub iter-done : (m′ : Checker) (r : Result ℕ Refusal) → ((A F C : Ty) → DenotesType (cellsOf m₃) f A → DenotesType (cellsOf m₃) g F → DenotesType (cellsOf m₃) q C → Agrees (cellsOf m₃) r (iterRule (x .place) A F C)) → Noted i m₃ m′ r → Checks subs i m₀ m′ r
@@ -308,7 +308,7 @@ module _ (subs : List Subterm) (i : ℕ) (x : Subterm) (at : getD subs i blank �
             record {
               infers = one .infers;
               result = subst (λ ts. DenotesType (vec-items (ts .cells)) f (typeOf (put e (w .binder .place) (w .annotation)) (w .a))) (sym (released .types)) (one .denotes);
-              added = under bound (of-typed one) released
+              added = under bound (of-typed one) released;
             }
 
         pub lam-room : Ready subs i m₀ → length (cellsOf m₁) < typeRoom
@@ -378,7 +378,7 @@ module _ (subs : List Subterm) (i : ℕ) (x : Subterm) (at : getD subs i blank �
             record {
               pairs = s .2 ∙ sym (ap (λ T. first T ⊗ second T) (s .2));
               one = subst (DenotesType (cellsOf m₁) left) (sym (ap first (s .2))) (s .3);
-              other = subst (DenotesType (cellsOf m₁) right) (sym (ap second (s .2))) (s .4)
+              other = subst (DenotesType (cellsOf m₁) right) (sym (ap second (s .2))) (s .4);
             }
 
         module _ (b₁ b₂ : Checker) (bound : Bound (record { binder = v; cell = left } ∷ []) m₁ b₁) (bound′ : Bound (record { binder = v′; cell = right } ∷ []) b₁ b₂) where

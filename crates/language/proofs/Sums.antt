@@ -84,7 +84,7 @@ said e (lam p x T t) (ty-lam {U = U} d pick) h =
     record {
       type = ap (λ B. T ⇒ B) (s .type);
       weighs = simp sum-append (omega (arith, s .weighs, ap naturals (s .type)));
-      tall = simp highest-append (omega (arith, s .tall, ap height (s .type)))
+      tall = simp highest-append (omega (arith, s .tall, ap height (s .type)));
     }
 said e (app p t u) (ty-app {T = T} {U = U} {Γ = Γ} {Δ = Δ} d f) h =
     let k = fits-append e Γ Δ h in
@@ -94,7 +94,7 @@ said e (app p t u) (ty-app {T = T} {U = U} {Γ = Γ} {Δ = Δ} d f) h =
     record {
       type = q;
       weighs = simp sum-append (omega (arith, s .weighs, r .weighs, ap naturals q));
-      tall = simp highest-append (omega (arith, s .tall, r .tall, ap height q))
+      tall = simp highest-append (omega (arith, s .tall, r .tall, ap height q));
     }
 said e (pair p t u) (ty-pair {Γ = Γ} {Δ = Δ} d f) h =
     let k = fits-append e Γ Δ h in
@@ -103,7 +103,7 @@ said e (pair p t u) (ty-pair {Γ = Γ} {Δ = Δ} d f) h =
     record {
       type = cc (s .type, r .type);
       weighs = simp sum-append (omega (arith, s .weighs, r .weighs, ap naturals (s .type), ap naturals (r .type)));
-      tall = simp highest-append (omega (arith, s .tall, r .tall, ap height (s .type), ap height (r .type)))
+      tall = simp highest-append (omega (arith, s .tall, r .tall, ap height (s .type), ap height (r .type)));
     }
 said e (split p x y t u) (ty-split {T = T} {U = U} {A = A} {Γ = Γ} {Δ = Θ} {Δ₂ = Δ} d f pick pick′) h =
     let k = fits-append e Γ Δ h in
@@ -114,7 +114,7 @@ said e (split p x y t u) (ty-split {T = T} {U = U} {A = A} {Γ = Γ} {Δ = Θ} {
     record {
       type = r .type;
       weighs = simp sum-append (omega (arith, s .weighs, r .weighs));
-      tall = simp highest-append (omega (arith, s .tall, r .tall, ap height (r .type)))
+      tall = simp highest-append (omega (arith, s .tall, r .tall, ap height (r .type)));
     }
 said e (iter p t u v) (ty-iter {Γ = Γ} {Δ = Δ} {Θ = Θ} d f g) h =
     let k = fits-append e Γ (Δ ++ Θ) h in
@@ -125,7 +125,7 @@ said e (iter p t u v) (ty-iter {Γ = Γ} {Δ = Δ} {Θ = Θ} d f g) h =
     record {
       type = q .type;
       weighs = simp sum-append (omega (arith, s .weighs, r .weighs, q .weighs, ap naturals (q .type)));
-      tall = simp highest-append (omega (arith, s .tall, r .tall, q .tall, ap height (q .type)))
+      tall = simp highest-append (omega (arith, s .tall, r .tall, q .tall, ap height (q .type)));
     }
 
 -- a low type has few Ns

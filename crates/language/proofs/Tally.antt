@@ -45,7 +45,7 @@ module _ (subs : List Subterm) (measures : List Measure) where
         iterators = iteratorAt (shapeOf x) + tally xs .iterators;
         successors = successorAt (shapeOf x) + tally xs .successors;
         height = max (measureFor x .height) (tally xs .height);
-        weight = shareAt (shapeOf x) (measureFor x) + tally xs .weight
+        weight = shareAt (shapeOf x) (measureFor x) + tally xs .weight;
       }
 
   -- one more typing
@@ -56,7 +56,7 @@ module _ (subs : List Subterm) (measures : List Measure) where
         iterators = f .iterators + iteratorAt (shapeOf x);
         successors = f .successors + successorAt (shapeOf x);
         height = max (f .height) (measureFor x .height);
-        weight = f .weight + shareAt (shapeOf x) (measureFor x)
+        weight = f .weight + shareAt (shapeOf x) (measureFor x);
       }
 
   pub same-facts : (f g : Facts) → f .subterms ≡ g .subterms → f .iterators ≡ g .iterators → f .successors ≡ g .successors → f .height ≡ g .height → f .weight ≡ g .weight → f ≡ g
@@ -78,6 +78,7 @@ module _ (subs : List Subterm) (measures : List Measure) where
     where
       one-iterator : (s : Shape) → iteratorAt s ≤ 1
       one-iterator s = elim s as (λ q. iteratorAt q ≤ 1) [ Variable b ↦ omega arith | Number n ↦ omega arith | Successor i ↦ omega arith | Function b a i ↦ omega arith | Application i j ↦ omega arith | Pair i j ↦ omega arith | Let b c i j ↦ omega arith | Iterator i j k ↦ omega arith ]
+
       one-successor : (s : Shape) → successorAt s ≤ 1
       one-successor s = elim s as (λ q. successorAt q ≤ 1) [ Variable b ↦ omega arith | Number n ↦ omega arith | Successor i ↦ omega arith | Function b a i ↦ omega arith | Application i j ↦ omega arith | Pair i j ↦ omega arith | Let b c i j ↦ omega arith | Iterator i j k ↦ omega arith ]
 
@@ -125,7 +126,7 @@ module _ (subs : List Subterm) (measures : List Measure) where
           successor = w .successor;
           height = heights (x .cell) (j .type) (s .type) ∙ (kept-height (j .type) ∙ omega arith);
           weight = w .share ∙ ap (counted (j .subject)) exact;
-          light = omega (arith, counted-few (j .subject) (naturals (j .type)), few)
+          light = omega (arith, counted-few (j .subject) (naturals (j .type)), few);
         }
 
     pub tallied : (xs : List Typing) (js : List Judgement) → Lists subs cells xs js → Low js → Counts js (tally xs)
@@ -140,7 +141,7 @@ module _ (subs : List Subterm) (measures : List Measure) where
           iterators = omega (arith, s .iterator, r .iterators);
           successors = omega (arith, s .successor, r .successors);
           height = omega (arith, s .height, r .height);
-          weight = omega (arith, s .weight, r .weight)
+          weight = omega (arith, s .weight, r .weight);
         }
 
     -- the weight so far, and where sub-terms stand

@@ -85,8 +85,8 @@ and-then {subs = subs} {js = js} {ks = ks} {m = m} {m′ = m′} {m″ = m″} f
         few = simp length-append (omega (arith, gf .few, gg .few));
         typings = gg .typings ∙ (ap (λ xs. xs ++ g .new) (gf .typings) ∙ append-assoc (typingsOf m) (f .new) (g .new));
         context = gg .context ∙ gf .context;
-        number = gg .number ∙ gf .number
-      }
+        number = gg .number ∙ gf .number;
+      };
     }
 
 -- one more cell
@@ -102,8 +102,8 @@ with-cell {subs = subs} {k = k} {js = js} {m = m} {m′ = m′} f m″ x e ty co
         few = simp length-append (omega (arith, gf .few));
         typings = ap vec-items ty ∙ gf .typings;
         context = ap vec-items co ∙ gf .context;
-        number = nu ∙ gf .number
-      }
+        number = nu ∙ gf .number;
+      };
     }
 
 -- these hypotheses came into force, and nothing else changed
@@ -119,7 +119,7 @@ bound-more {hs = hs} {gs = gs} {m = m} f g =
       types = g .types ∙ f .types;
       typings = g .typings ∙ f .typings;
       context = g .context ∙ (ap (λ xs. xs ++ gs) (f .context) ∙ append-assoc (contextOf m) hs gs);
-      number = g .number ∙ f .number
+      number = g .number ∙ f .number;
     }
 
 take-front : (xs ys : List Hypothesis) (n : ℕ) → n ≡ length xs → take n (xs ++ ys) ≡ xs
@@ -147,8 +147,8 @@ under {subs = subs} {js = js} {hs = hs} {m = m} {b′ = b′} h f r =
         few = g .few;
         typings = ap vec-items (r .typings) ∙ (g .typings ∙ ap (λ xs. xs ++ f .new) (h .typings));
         context = r .context ∙ (ap (take (vec-len (m .context))) (g .context ∙ h .context) ∙ take-front (contextOf m) hs (vec-len (m .context)) (m .context .ok .0));
-        number = r .number ∙ (g .number ∙ h .number)
-      }
+        number = r .number ∙ (g .number ∙ h .number);
+      };
     }
 
 -- a hypothesis of the type T, under which the tree is checked
@@ -193,7 +193,7 @@ module _ (subs : List Subterm) (i : ℕ) (m₀ : Checker) (r : Ready subs i m₀
         numbered = subst (λ c. DenotesType (cellsOf m) c N) (sym (g .number)) (types-last g N (m₀ .number) (r .numbered));
         type-room = omega (arith, cells-so-far, r .type-room);
         typing-room = omega (arith, typings-so-far, r .typing-room);
-        context-room = omega (arith, context-so-far, r .context-room)
+        context-room = omega (arith, context-so-far, r .context-room);
       }
 
 abbrev pub ready-under : (subs : List Subterm) (j : ℕ) (m b : Checker) (h : Hypothesis) → (r : Ready subs j m) → Bound (h ∷ []) m b → (T : Ty) → DenotesType (cellsOf m) (h .cell) T → length (contextOf m) + suc (2 * subterms (erase (r .tree))) ≤ 4096 → Ready subs j b
@@ -206,7 +206,7 @@ ready-under subs j m b h r f T d n =
       numbered = subst (λ c. DenotesType (cellsOf b) c N) (sym (f .number)) (subst (λ cs. DenotesType cs (m .number) N) (sym (f .types)) (r .numbered));
       type-room = omega (arith, ap length (f .types), r .type-room);
       typing-room = omega (arith, ap length (f .typings), r .typing-room);
-      context-room = omega (arith, simp length-append at (ap length (f .context)))
+      context-room = omega (arith, simp length-append at (ap length (f .context)));
     }
 
 -- the whole, once its parts are checked
@@ -233,6 +233,6 @@ finish subs i t e m₀ m m′ (Ok c) (good A) k js q a n d s l j =
         few = omega (arith, g .few);
         typings = n .1 ∙ (ap (λ xs. xs ++ (record { subterm = i; cell = c } ∷ [])) (g .typings) ∙ append-assoc (typingsOf m₀) (s .new) (record { subterm = i; cell = c } ∷ []));
         context = ap vec-items (n .2) ∙ g .context;
-        number = n .3 ∙ g .number
-      }
+        number = n .3 ∙ g .number;
+      };
     }

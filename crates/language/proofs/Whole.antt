@@ -64,7 +64,7 @@ module _ (subs : List Subterm) (cells : List TypeCell) (root : ℕ) (m : Checker
         numbered = number-is;
         type-room = omega (arith, n, g .few, g .short);
         typing-room = omega (arith, ap length (b .typings), g .few);
-        context-room = omega (arith, ap length (b .context), g .few)
+        context-room = omega (arith, ap length (b .context), g .few);
       }
 
   -- refused before the program's own type is asked
@@ -93,7 +93,7 @@ module _ (subs : List Subterm) (cells : List TypeCell) (root : ℕ) (m : Checker
           judged = judgements nobody (g .tree);
           lists = all-lists (g .tree) (g .denotes);
           low = low (g .tree) (g .denotes);
-          few = omega (arith, lists-length subs (cellsOf m′) (typingsOf m′) (judgements nobody (g .tree)) (all-lists (g .tree) (g .denotes)), judged-all nobody (g .tree), g .few)
+          few = omega (arith, lists-length subs (cellsOf m′) (typingsOf m′) (judgements nobody (g .tree)) (all-lists (g .tree) (g .denotes)), judged-all nobody (g .tree), g .few);
         }
 
     -- the program's type is not N
@@ -114,7 +114,7 @@ module _ (subs : List Subterm) (cells : List TypeCell) (root : ℕ) (m : Checker
           iterators = k .iterators ∙ iterators-counted nobody t;
           successors = k .successors ∙ successors-counted nobody t;
           height = k .height;
-          weight = k .weight
+          weight = k .weight;
         }
 
     -- the program's type is N
@@ -123,11 +123,13 @@ module _ (subs : List Subterm) (cells : List TypeCell) (root : ℕ) (m : Checker
       where
         is : infer nobody t ≡ good N
         is = let w = typed t d in w .infers ∙ ap good (reads (typeOf nobody t) (cellsOf m′) c kind.N q (w .denotes))
+
         spans-last : Spans subs (cellsOf m′) 0 root t
         spans-last =
             let g = typed t d .grown in
             let begun : Spans subs (cellsOf m) 0 root t = subst (λ cs. Spans subs cs 0 root t) (sym (b .types)) (spans-more t subs cells (kind.N ∷ []) 0 root sp) in
             subst (λ cs. Spans subs cs 0 root t) (sym (g .cells)) (spans-more t subs (cellsOf m) (g .more) 0 root begun)
+
         by : (r : Result Facts Refusal) → Limited (judgements nobody t) r → Concludes subs root t (cellsOf m′) (typingsOf m′) r
         by (Ok f) l =
             let few : leb (iterators (erase t)) 64 ≡ true = let n = iterators-counted nobody t in let le = l .1 in grind (arith, tells) in
@@ -143,7 +145,7 @@ read-given bytes subs cells root a =
       tree = a .tree;
       denotes = a .denotes;
       few = omega (arith, spans-count (a .tree) subs cells 0 root (a .spans), there subs cells root (a .tree) (a .denotes), a .few);
-      short = a .fewTypes
+      short = a .fewTypes;
     }
 
 -- what memory holds, as the program gives it

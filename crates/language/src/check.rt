@@ -113,7 +113,13 @@ impl Checker {
     }
 
     // A function takes an argument of its own domain.
-    fn application(&mut self, subterm: usize, place: usize, function: usize, argument: usize) -> Result<usize, Refusal>
+    fn application(
+        &mut self,
+        subterm: usize,
+        place: usize,
+        function: usize,
+        argument: usize,
+    ) -> Result<usize, Refusal>
         requires function { ⌜ IsType (cellsOf (now self)) function ⌝ }
         requires argument { ⌜ IsType (cellsOf (now self)) argument ⌝ }
         requires room { ⌜ length (typingsOf (now self)) < 2048 ⌝ }
@@ -144,7 +150,14 @@ impl Checker {
     }
 
     // A step from a type to itself, from a base of that type, as often as a number says.
-    fn iterator(&mut self, subterm: usize, place: usize, count: usize, step: usize, base: usize) -> Result<usize, Refusal>
+    fn iterator(
+        &mut self,
+        subterm: usize,
+        place: usize,
+        count: usize,
+        step: usize,
+        base: usize,
+    ) -> Result<usize, Refusal>
         requires count { ⌜ IsType (cellsOf (now self)) count ⌝ }
         requires step { ⌜ IsType (cellsOf (now self)) step ⌝ }
         requires base { ⌜ IsType (cellsOf (now self)) base ⌝ }
@@ -158,7 +171,13 @@ impl Checker {
         }
     }
 
-    fn repeated(&mut self, subterm: usize, place: usize, step: usize, base: usize) -> Result<usize, Refusal>
+    fn repeated(
+        &mut self,
+        subterm: usize,
+        place: usize,
+        step: usize,
+        base: usize,
+    ) -> Result<usize, Refusal>
         requires step { ⌜ IsType (cellsOf (now self)) step ⌝ }
         requires base { ⌜ IsType (cellsOf (now self)) base ⌝ }
         requires room { ⌜ length (typingsOf (now self)) < 2048 ⌝ }
@@ -193,7 +212,11 @@ impl Checker {
                 let part = self.check(subs, part)?;
                 self.successor(i, place, part)
             }
-            Shape::Function { binder, annotation, body } => {
+            Shape::Function {
+                binder,
+                annotation,
+                body,
+            } => {
                 let before = self.context.len();
                 self.bind(binder, annotation);
                 let result = self.check(subs, body)?;

@@ -25,7 +25,9 @@ use syntax::refusal::Fault;
 use syntax::refusal::Refusal;
 
 const SUBTERMS: usize = 2048;
+
 const HYPOTHESES: usize = 4096;
+
 const ITERATORS: usize = 64;
 
 impl Checker {
@@ -72,7 +74,12 @@ impl Checker {
     }
 
     // Has the program types, is its own N, and are its iterators few?
-    pub fn conclude(&mut self, subs: &[Subterm], cells: &[TypeCell], root: usize) -> Result<Facts, Refusal>
+    pub fn conclude(
+        &mut self,
+        subs: &[Subterm],
+        cells: &[TypeCell],
+        root: usize,
+    ) -> Result<Facts, Refusal>
         requires { ⌜ Given (now subs) (now cells) root ⌝ }
         ensures { λ r. ⌜ ((t : Tree ℕ) → Denotes (now (subs .entry)) (now (cells .entry)) root t → Spans (now (subs .entry)) (now (cells .entry)) 0 root t → Concludes (now (subs .entry)) root t (cellsOf (now (self .exit))) (typingsOf (now (self .exit))) r) ⌝ }
     {

@@ -27,7 +27,11 @@ fn join(a: Measure, b: Measure) -> Measure
 pub fn measure_of(measures: &[Measure], i: usize) -> Measure
     ensures { λ r. ⌜ r ≡ getD (now (measures .entry)) i number ⌝ }
 {
-    if i < measures.len() { measures[i] } else { NUMBER }
+    if i < measures.len() {
+        measures[i]
+    } else {
+        NUMBER
+    }
 }
 
 // The measure of a cell, whose parts stand in the table.

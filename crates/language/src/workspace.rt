@@ -39,7 +39,12 @@ impl Workspace {
         ensures { λ r. ⌜ Leaves (now (text .entry)) (vec-items (now (self .exit) .tables .program .subterms)) (cellsOf (now (self .exit) .checker)) (typingsOf (now (self .exit) .checker)) r ⌝ }
     {
         let root = read(text, &mut self.tables)?;
-        let facts = self.checker.conclude(&self.tables.program.subterms, &self.tables.program.types, root)?;
+        let facts = self.checker
+            .conclude(
+                &self.tables.program.subterms,
+                &self.tables.program.types,
+                root,
+            )?;
         Ok((root, facts))
     }
 

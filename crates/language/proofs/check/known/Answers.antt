@@ -21,12 +21,12 @@ loop-hypothesis-again c =
     let h = getD xs i d in
     let w : cellOf (c .args .number) (take (i + 1) xs) (c .args .binder) ≡ cond (eqb (h .binder) (c .args .binder)) (h .cell) (cellOf (c .args .number) (take i xs) (c .args .binder)) = ap (λ l. cellOf (c .args .number) l (c .args .binder)) (take-more xs i d (c .loop-hypothesis-test .taken)) ∙ cellOf-push (c .args .number) (take i xs) h (c .args .binder) in
     elim (c .if-hypothesis-binder .came) [
-      then-hypothesis-binder v ↦
-        let t : eqb (h .binder) (c .args .binder) ≡ true = let k = v .if-hypothesis-binder .taken in grind (arith, tells) in
-        v .cell-is ∙ sym (w ∙ ap (λ b. cond b (h .cell) (cellOf (c .args .number) (take i xs) (c .args .binder))) t)
-    | else-hypothesis-binder v ↦
-        let t : eqb (h .binder) (c .args .binder) ≡ false = let k = v .if-hypothesis-binder .left in grind (arith, tells) in
-        v .cell-is ∙ (c .loop-hypothesis .inv ∙ sym (w ∙ ap (λ b. cond b (h .cell) (cellOf (c .args .number) (take i xs) (c .args .binder))) t))
+      | then-hypothesis-binder v ↦
+          let t : eqb (h .binder) (c .args .binder) ≡ true = let k = v .if-hypothesis-binder .taken in grind (arith, tells) in
+          v .cell-is ∙ sym (w ∙ ap (λ b. cond b (h .cell) (cellOf (c .args .number) (take i xs) (c .args .binder))) t)
+      | else-hypothesis-binder v ↦
+          let t : eqb (h .binder) (c .args .binder) ≡ false = let k = v .if-hypothesis-binder .left in grind (arith, tells) in
+          v .cell-is ∙ (c .loop-hypothesis .inv ∙ sym (w ∙ ap (λ b. cond b (h .cell) (cellOf (c .args .number) (take i xs) (c .args .binder))) t))
     ]
 
 pub returns : need.returns

@@ -19,25 +19,25 @@ pub same-requires : need.same-requires
 same-requires t c κs =
     let m = reads _ _ _ _ (c .cell-at .ensures ∙ c .in-Arrow .is) (c .pre .left .1) in
     let n = reads _ _ _ _ (c .cell-at-in-Arrow .ensures ∙ c .in-Arrow-cell-at .is) (c .pre .right .1) in
-    (omega (arith, m .less), ((_ , m .first), (_ , n .first)))
+    (omega (arith, m .less), ((_, m .first), (_, n .first)))
 
 pub same-requires-then-same : need.same-requires-then-same
 same-requires-then-same t c κs =
     let m = reads _ _ _ _ (c .cell-at .ensures ∙ c .in-Arrow .is) (c .pre .left .1) in
     let n = reads _ _ _ _ (c .cell-at-in-Arrow .ensures ∙ c .in-Arrow-cell-at .is) (c .pre .right .1) in
-    (omega (arith, m .less′), ((_ , m .second), (_ , n .second)))
+    (omega (arith, m .less′), ((_, m .second), (_, n .second)))
 
 pub same-requires-in-Product-cell-at : need.same-requires-in-Product-cell-at
 same-requires-in-Product-cell-at t c κs =
     let m = reads _ _ _ _ (c .cell-at .ensures ∙ c .in-Product .is) (c .pre .left .1) in
     let n = reads _ _ _ _ (c .cell-at-in-Product .ensures ∙ c .in-Product-cell-at .is) (c .pre .right .1) in
-    (omega (arith, m .less), ((_ , m .first), (_ , n .first)))
+    (omega (arith, m .less), ((_, m .first), (_, n .first)))
 
 pub same-requires-then-same-2 : need.same-requires-then-same-2
 same-requires-then-same-2 t c κs =
     let m = reads _ _ _ _ (c .cell-at .ensures ∙ c .in-Product .is) (c .pre .left .1) in
     let n = reads _ _ _ _ (c .cell-at-in-Product .ensures ∙ c .in-Product-cell-at .is) (c .pre .right .1) in
-    (omega (arith, m .less′), ((_ , m .second), (_ , n .second)))
+    (omega (arith, m .less′), ((_, m .second), (_, n .second)))
 
 pub returns-in-N-cell-at : need.returns-in-N-cell-at
 returns-in-N-cell-at t c = same-numbers _ _ _ (c .cell-at .ensures ∙ c .in-N .is) (c .cell-at-in-N .ensures ∙ c .in-N-cell-at .is)
