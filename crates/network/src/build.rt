@@ -15,6 +15,7 @@ use crate::part::Part;
 use crate::plan::part_at;
 use crate::plan::plan;
 use crate::wire::wire;
+use grammar::accept;
 use language::workspace::Workspace;
 use std::alloc::AllocError;
 use std::alloc::Global;
@@ -43,7 +44,7 @@ fn check(text: &[u8], checker: &mut Workspace, parts: &mut Vec<Part>) -> Result<
     ensures checked { λ r. ⌜ Checked (now (text .entry)) (vec-items (now (parts .exit))) r ⌝ }
     ensures room { λ _. ⌜ vec-cap (now (parts .exit)) ≡ vec-cap (now (parts .entry)) ⌝ }
 {
-    let program = checker.check(text)?;
+    let program = accept(text, checker)?;
     plan(program.subterms, program.root + 1, parts);
     Ok(program.root)
 }
