@@ -16,7 +16,7 @@ use Rattle.machine.specs.Walks.{Place}
 use Rattle.runs.specs.declared.calls.Call.the-variants as call
 use Rattle.runs.specs.declared.calls.Answer.{Answer}
 use Rattle.runs.specs.declared.calls.Answer.the-variants as answer
-use Rattle.runs.specs.Runs.{History, Stands, Does, reads-of}
+use Rattle.runs.specs.Runs.{History, Stands, Does, reads-of, RunLaw}
 use Rattle.runs.proofs.Listing.{reads-once}
 use Rattle.runs.proofs.Whole.{run-law}
 use Rattle.token.specs.declared.memory.DataCell.{DataCell}
@@ -31,6 +31,10 @@ use Rattle.token_machine.specs.declared.queries.Query.the-variants as query
 use Rattle.token_machine.specs.Readings.{Reading, number, readingOf, orNone}
 use Rattle.token_machine.specs.Tokens.{stateOf}
 use Rattle.lab.specs.Distances.{TokenReads, Asked, Away, WalkDistances, DistancesOfWalks}
+
+-- the run law of tokens
+pub token-run-law : RunLaw next turned TokenReads
+token-run-law = run-law token-laws (reads-once stateOf (λ (m : Token) z q. readingOf (stateOf m) z q))
 
 module _ (ns : List Node) (rs : Rooms) where
   -- the opening, turned, is home
@@ -62,7 +66,7 @@ module _ (ns : List Node) (rs : Rooms) where
       ap numberOf same ∙ a .reached .number
 
   stands : {h : History Query Reading} {p : Place State} {ps : List ℤ} {f b : ℕ} → Asked ns rs h p ps f b → Stands next start (p .sum) (p .state)
-  stands run = run-law token-laws (reads-once stateOf (λ (m : Token) z q. readingOf (stateOf m) z q)) .stands start run
+  stands run = token-run-law .stands start run
 
   brings : {h : History Query Reading} {p : Place State} {ps : List ℤ} {f b : ℕ} → Asked ns rs h p ps f b → (n : ℕ) → (numberOf (p .state) ≡ Some n) ↔ Away ns rs n (p .sum)
   brings {p = p} run n = (away (p .sum) (p .state) n (stands run), there (p .sum) (p .state) n (stands run))

@@ -5,5 +5,5 @@ pub mod Listings
 pub mod Advancing
 pub mod Bounds
 pub mod Lengths
-pub mod Opening
+pub mod Built
 pub mod Outcomes

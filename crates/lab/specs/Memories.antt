@@ -1,6 +1,6 @@
 -- Lent memory: what it is to be as it was, and the memory that the programs lend. Assumes nothing.
 use mathlib.Core.Path.{_≡_}
-use Prim.Native.Nat.{ℕ}
+use Prim.Native.Nat.{ℕ, _≤_}
 use lib.ListN.{length}
 use denote.Ref.{now}
 use Rattle.std.specs.Of.Vec.{vec-items}
@@ -20,6 +20,13 @@ pub record AsItWas (m m′ : Memory) : Type 0 where
   pub iters : now (m′ .iters) ≡ now (m .iters)
   pub shelves : now (m′ .shelves) ≡ now (m .shelves)
   pub datas : now (m′ .datas) ≡ now (m .datas)
+
+-- no more memory than the tracer's: 2,048 nodes, 256 letter, 256 iterator and 1,024 data cells
+pub record AsTheTracer (m : Memory) : Type 0 where
+  pub cells : length (now (m .cells)) ≤ 2048
+  pub letters : length (now (m .letters)) ≤ 256
+  pub iters : length (now (m .iters)) ≤ 256
+  pub datas : length (now (m .datas)) ≤ 1024
 
 pub record Sized (v : Reserve) : Type 0 where
   pub cells : length (vec-items (v .cells)) ≡ 2048

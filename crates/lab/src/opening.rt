@@ -7,20 +7,18 @@ ghost use Rattle.lab.specs.Whole.{WholeWalks};
 use crate::memory::Memory;
 use crate::refusals::Refused;
 use grammar::texts_accepted_exactly;
-use machine::Walk;
 use network::Builder;
 use token::DataCell;
 use token_machine::Token;
-use token_machine::TokenMachine;
 
-// Opens a session: builds the network of the text in the lent cells, and opens a walk of a token on it, with the
-// question or a number; or gives the refusal, with the memory as it was.
+// Opens a session: builds the network of the text in the lent cells and opens a token on it, with the question or a
+// number; or gives the refusal, with the memory as it was. `Walk::new` of the token is the session's walk.
 pub fn open<'a>(
     builder: &mut Builder,
     text: &[u8],
     memory: Memory<'a>,
     first: DataCell,
-) -> Result<Walk<Token<'a>>, Refused<'a>>
+) -> Result<Token<'a>, Refused<'a>>
     ensures opened { λ r. ⌜ Opened (now (text .entry)) (memory .entry) first r ⌝ }
     ensures exact { λ _. ⌜ AcceptedExactly × RejectedExactly ⌝ }
     ensures whole { λ _. ⌜ WholeWalks next turned TokenReads ⌝ }
@@ -34,7 +32,7 @@ pub fn open<'a>(
         datas,
     } = memory;
     match builder.build(text, cells) {
-        Ok(_) => Ok(Walk::new(Token::open(cells, first, letters, iters, datas, shelves))),
+        Ok(_) => Ok(Token::open(cells, first, letters, iters, datas, shelves)),
         Err(refusal) => Err(Refused {
             refusal,
             memory: Memory {

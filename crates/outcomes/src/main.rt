@@ -8,12 +8,14 @@ use lab::Reserve;
 use lab::open;
 use lab::show_outcome;
 use lab::show_text;
+use machine::Walk;
 use network::Builder;
 use std::error::AnyError;
 use std::io::BufWriter;
 use std::io::Read;
 use std::io::Write;
 use token::DataCell;
+use token_machine::TokenMachine;
 
 // The most bytes that are read.
 const MOST: u64 = 16_777_216;
@@ -35,7 +37,7 @@ fn tell(builder: &mut Builder, reserve: &mut Reserve, text: &[u8], line: &mut [u
     ensures { λ r. ⌜ made r (λ n. n ≤ length (now (line .exit))) ⌝ }
 {
     let shown = match open(builder, text, reserve.lend(), DataCell::Question) {
-        Ok(mut walk) => show_outcome(&mut walk, line),
+        Ok(token) => show_outcome(&mut Walk::new(token), line),
         Err(refused) => show_text(&refused, line),
     };
     match shown {

@@ -13,12 +13,14 @@ use lab::RefusedText;
 use lab::Reserve;
 use lab::open;
 use lab::show_text;
+use machine::Walk;
 use network::Builder;
 use std::error::AnyError;
 use std::io::BufWriter;
 use std::io::Read;
 use std::io::Write;
 use token::DataCell;
+use token_machine::TokenMachine;
 
 // One byte more than a text may have: enough to see that it is too long.
 const MOST: u64 = 16_385;
@@ -50,7 +52,7 @@ fn trace<W: Write>(out: &mut W, rt: &LibcRuntime) -> Result<(), AnyError> {
     let mut text = Vec::new(heap);
     let _ = rt.stdin().take(MOST).read_to_end(&mut text)?;
     match open(&mut builder, &text, reserve.lend(), DataCell::Question) {
-        Ok(walk) => write_all_lines(out, &mut Listing::new(walk), &mut line),
+        Ok(token) => write_all_lines(out, &mut Listing::new(Walk::new(token)), &mut line),
         Err(refused) => {
             if let Ok(n) = show_text(&refused, &mut line) {
                 out.write_all(&line[0..n])?;

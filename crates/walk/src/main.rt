@@ -22,6 +22,7 @@ use std::io::Write;
 use token_machine::Query;
 use token_machine::Reply;
 use token_machine::Token;
+use token_machine::TokenMachine;
 use token_machine::TokenReadable;
 
 // One byte more than a text may have: enough to see that it is too long.
@@ -92,7 +93,7 @@ fn follow<W: Write>(out: &mut W, rt: &LibcRuntime, plan: &Plan) -> Result<(), An
     let mut text = Vec::new(heap);
     let _ = rt.stdin().take(MOST).read_to_end(&mut text)?;
     match open(&mut builder, &text, reserve.lend(), plan.first) {
-        Ok(mut walk) => act(out, rt, &mut walk, &plan.calls)?,
+        Ok(token) => act(out, rt, &mut Walk::new(token), &plan.calls)?,
         Err(refused) => {
             let mut line = vec![in heap; 0; LINE]?;
             if let Ok(n) = show_text(&refused, &mut line) {
