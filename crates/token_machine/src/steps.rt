@@ -84,6 +84,7 @@ impl<'a> Token<'a> {
         shelves: &'a mut [IterCell],
     ) -> Token<'a>
         ensures state { λ r. ⌜ stateOf r ≡ opened (nodesOf (now (cells .entry))) (capacities (length (now (letters .entry))) (length (now (iters .entry))) (length (now (datas .entry))) (length (now (shelves .entry)))) first ⌝ }
+        ensures cells { λ r. ⌜ now (r .cells) ≡ now (cells .entry) ⌝ }
         ensures distances { λ r. ⌜ DistanceLaw (nodesOf (now (cells .entry))) (roomsOf r) ⌝ }
         ensures linked { λ r. ⌜ StaysLinked (nodesOf (now (cells .entry))) (roomsOf r) ⌝ }
     {

@@ -1,0 +1,10 @@
+pub mod Distances
+pub mod Homecoming
+pub mod Whole
+pub mod Ends
+pub mod Refusals
+pub mod Listings
+pub mod Bounds
+pub mod Memories
+pub mod Opening
+pub mod Outcomes
