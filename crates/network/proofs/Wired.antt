@@ -13,9 +13,10 @@ use Rattle.geometry.specs.Derivations.{Apart, Distinct}
 use Rattle.geometry.proofs.Memory.{wiredCells-append}
 use Rattle.geometry.proofs.Local.{each-left, each-right, each-map, Same, same-bound, same-entered, same-crossings, local, Under, under-bound, under-entered}
 use Rattle.geometry.proofs.Names.{Distinct-left, Distinct-right}
+use Rattle.syntax.specs.declared.program.Shape.the-variants.{Iterator}
 use Rattle.network.specs.declared.part.Part.{Part}
 use Rattle.network.specs.Parts.{noPart, Linear, Holds}
-use Rattle.network.specs.Wiring.{starting, Below, Started, Numbered, Joinable, Crossed, Ready, Passable, Enclosed, Passed, Wirable, Wired}
+use Rattle.network.specs.Wiring.{starting, Below, ownWires, Started, Numbered, Joinable, Crossed, Ready, Passable, Enclosed, Passed, Wirable, Wired}
 use Rattle.network.proofs.Uses.{distinct, linear-succ, linear-lam, linear-app, linear-pair, linear-split, linear-iter}
 use Rattle.network.proofs.Laid.{own-among}
 use Rattle.network.proofs.Gathered.{below-long}
@@ -259,16 +260,8 @@ passed-at t k k′ p p′ r f s s₁ c c₁ x g h m =
     let y : wires t k′ p′ (entered (free t) j e) ≡ wires t k′ p′ (entered (free t) j f) = local t k′ p′ (entered (free t) j e) (entered (free t) j f) (same-entered (free t) j e f (free t) m) in
     x .written ∙ ap (λ ws. wiredCells ws c) (ap (λ a. wiresOf a p) g ∙ (ap (λ b. wiresOf k′ b) h ∙ (ap (λ l. l ++ wires t k′ p′ (entered (free t) j e)) z ∙ ap (λ l. crossings (free t) j f ++ l) y)))
 
--- the wires of an iterator's own nodes
-abbrev pub ownOf : ℕ → ℕ → List Wire
-ownOf k r =
-    let c = suc k in
-    let c′ = suc c in
-    let m = suc c′ in
-    (r, l2 k) ∷ ((l3 k, l2 c) ∷ ((l1 c, l1 c′) ∷ ((l3 c′, l2 m) ∷ ((l3 c, l3 m) ∷ []))))
-
 pub wired-iter : (a b c : Term) (k r k₁ k₂ k₃ p q q′ e : ℕ) (s s₁ s₂ s₃ : List ℕ) (cs c₁ c₂ c₃ c₄ : List Cell) →
-    c₁ ≡ wiredCells (ownOf k r) cs → k₁ ≡ k + 4 → p ≡ l1 k → q ≡ l1 (k + 3) → q′ ≡ l2 (k + 2) →
+    c₁ ≡ wiredCells (ownWires (Iterator 0 0 0) k r (starting s)) cs → k₁ ≡ k + 4 → p ≡ l1 k → q ≡ l1 (k + 3) → q′ ≡ l2 (k + 2) →
     Wired a k₁ p k₂ s s₁ c₁ c₂ → Passed b k₂ q k₃ s₁ s₂ c₂ c₃ → Passed c k₃ q′ e s₂ s₃ c₃ c₄ →
     Distinct (free a ++ (free b ++ free c)) → Wired (iter a b c) k r e s s₃ cs c₄
 wired-iter a b c k r k₁ k₂ k₃ p q q′ e s s₁ s₂ s₃ cs c₁ c₂ c₃ c₄ z f g h h′ v x y d =
@@ -292,7 +285,7 @@ wired-iter a b c k r k₁ k₂ k₃ p q q′ e s s₁ s₂ s₃ cs c₁ c₂ c�
     let base = passed-at c k₃ ba q′ (l2 (suc (suc k))) e env s₂ s₃ c₃ c₄ y (omega (arith, x .next, v .next, f)) (omega (arith, h′)) uc in
     record {
       next = omega (arith, v .next, f, x .next, y .next);
-      written = then (ownOf k r) (counts ++ (steps ++ bases)) cs c₁ c₄ z (then counts (steps ++ bases) c₁ c₂ c₄ count (then steps bases c₂ c₃ c₄ step base));
+      written = then (ownWires (Iterator 0 0 0) k r env) (counts ++ (steps ++ bases)) cs c₁ c₄ z (then counts (steps ++ bases) c₁ c₂ c₄ count (then steps bases c₂ c₃ c₄ step base));
       long = all .long;
       same = all .same;
     }
