@@ -101,7 +101,8 @@ module _ (text : List ℕ) (t : Tree Name) (a : Accepted text t) where
         weighs = λ d i. weight-kept u d i;
         plain = plain u;
         counts = successors-counted u;
-        small = numbers-kept u 1000000000 (numbers t [] 1000000000 (a .within .numbers)) })
+        small = numbers-kept u 1000000000 (numbers t [] 1000000000 (a .within .numbers));
+      })
 
 -- node 0 is the root, and the nodes of the program follow
 pub laid-all : (t : Term) (r : Next) (cells c₁ c₂ : List Cell) → c₁ ≡ set cells 0 (cellOf (bare (Root, 0))) → LaidOut t (record { node = 1; iterator = 1 }) r c₁ c₂ → c₂ ≡ laid (allMade t) 0 cells
@@ -116,9 +117,15 @@ wirable-all parts i size size′ starts t d e =
       n = n;
       ready = record {
         numbered = record { within = omega (arith, d .room, e); ports = few };
-        holds = d .holds; linear = linear (d .typed); small = d .small; below = d .below;
-        started = subst (EachVariable (λ x. starting starts x < 3 * n)) (sym (closed (d .typed))) tt };
-      room = omega arith; rooted = omega arith }
+        holds = d .holds;
+        linear = linear (d .typed);
+        small = d .small;
+        below = d .below;
+        started = subst (EachVariable (λ x. starting starts x < 3 * n)) (sym (closed (d .typed))) tt;
+      };
+      room = omega arith;
+      rooted = omega arith;
+    }
 
 pub drawn-all : (t : Term) (r : ℕ) (starts starts′ : List ℕ) (cells c₂ c₃ : List Cell) → Typed [] t N → c₂ ≡ laid (allMade t) 0 cells → Wired t 1 0 r starts starts′ c₂ c₃ → Drawn t cells c₃
 drawn-all t r starts starts′ cells c₂ c₃ d e w =

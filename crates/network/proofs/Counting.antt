@@ -94,8 +94,9 @@ module _ (subs : List Subterm) (parts : List Part) (planned : Planned subs parts
   unfolding new
   planned-more types i t l h o z =
       elim (cases-lt i (length parts)) [
-        inl m ↦ holds-more (erase t) parts _ i (planned types i t m h o z)
-      | inr m ↦ (
-          let e : length parts ≡ i = omega (arith, l, length-append parts (new ∷ [])) in
-          let P : ℕ → Type 0 = λ k. Denotes subs types k t → Holds (parts ++ (new ∷ [])) k (erase t) in
-          subst P e (λ d. at-new types t d o z) h) ]
+        | inl m ↦ holds-more (erase t) parts _ i (planned types i t m h o z)
+        | inr m ↦ (
+            let e : length parts ≡ i = omega (arith, l, length-append parts (new ∷ [])) in
+            let P : ℕ → Type 0 = λ k. Denotes subs types k t → Holds (parts ++ (new ∷ [])) k (erase t) in
+            subst P e (λ d. at-new types t d o z) h)
+      ]

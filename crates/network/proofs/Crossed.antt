@@ -47,7 +47,8 @@ module _ (x : ℕ) (xs : List ℕ) (j : ℕ) (s : List ℕ) (size : ℕ) (h : Cr
         room = omega (arith, h .room);
         placed = each-map (λ y. y < length s) (λ y. y < length (set s x (l2 j))) (λ y l. omega (arith, l, length-set s x (l2 j))) xs (h .placed .1);
         started = moved (h .n) s x (l2 j) xs (h .distinct .0) (h .started .1);
-        distinct = h .distinct .1 })
+        distinct = h .distinct .1;
+      })
 
   pub wired-rest : (j′ : ℕ) (s′ : List ℕ) (cs cs′ : List Cell) → j′ ≡ suc j → s′ ≡ set s x (l2 j) → cs′ ≡ linkCell (linkCell cs (starting s x) (l1 j)) (l1 j) (starting s x) → wiredCells (crossings xs j′ (starting s′)) cs′ ≡ wiredCells (crossings (x ∷ xs) j (starting s)) cs
   wired-rest j′ s′ cs cs′ e f g =
@@ -93,7 +94,13 @@ gathered n size s us vs t h g e f = f ∙ (ap (λ q. q ++ inForce s (free t)) e 
 pub crossable : (parts : List Part) (i k first : ℕ) (s : List ℕ) (size : ℕ) (t : Term) → Passable parts i k s size t → first ≡ k + nodes t → Crossable (free t) first s size
 crossable parts i k first s size t h e =
     record {
-      n = h .n; numbered = h .ready .numbered; room = omega (arith, h .room, e); placed = placed-free (length s) t (h .ready .below); started = h .ready .started; distinct = distinct (h .ready .linear) }
+      n = h .n;
+      numbered = h .ready .numbered;
+      room = omega (arith, h .room, e);
+      placed = placed-free (length s) t (h .ready .below);
+      started = h .ready .started;
+      distinct = distinct (h .ready .linear);
+    }
 
 -- the same variables from the same table
 pub crossed-by : {us us′ : List ℕ} {j j′ : ℕ} {s s′ r : List ℕ} {cs cs′ : List Cell} → us ≡ us′ → j ≡ j′ → s ≡ s′ → Crossed us j s r cs cs′ → Crossed us′ j′ s′ r cs cs′

@@ -152,7 +152,19 @@ module _ (parts : List Part) (i : ℕ) (t : Term) (p : Part) (e : getD parts i n
   pub three : (j k l : ℕ) → p .shape ≡ Iterator j k l → Three parts i j k l t
   three j k l f =
       as-iterator parts i (Three parts i j k l) t p e h j k l f (λ a b c z z′ z″ q q′ q″. record {
-        a = a; b = b; c = c; less = z; less′ = z′; less″ = z″; part = q; part′ = q′; part″ = q″; free-is = refl; below = λ n y. y; size = refl })
+        a = a;
+        b = b;
+        c = c;
+        less = z;
+        less′ = z′;
+        less″ = z″;
+        part = q;
+        part′ = q′;
+        part″ = q″;
+        free-is = refl;
+        below = λ n y. y;
+        size = refl;
+      })
 
 -- a table as long has a place for the same variables
 pub below-long : (t : Term) (m n : ℕ) → n ≡ m → Below m t → Below n t

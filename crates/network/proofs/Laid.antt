@@ -106,29 +106,79 @@ module _ (parts : List Part) (i : ℕ) (t : Term) (p : Part) (e : getD parts i n
   pub one-successor : (j : ℕ) → p .shape ≡ Successor j → One parts i j (p .shape) t
   one-successor j f =
       as-successor parts i (One parts i j (p .shape)) t p e h j f (λ a l q. rw f (record {
-        a = a; less = l; part = q; nodes-are = omega arith; iterators-are = omega arith; made-are = λ n m z. rw (moved n m 0 refl z) refl }))
+        a = a;
+        less = l;
+        part = q;
+        nodes-are = omega arith;
+        iterators-are = omega arith;
+        made-are = λ n m z. rw (moved n m 0 refl z) refl;
+      }))
 
   pub one-function : (x n j : ℕ) → p .shape ≡ Function x n j → One parts i j (p .shape) t
   one-function x y j f =
       as-function parts i (One parts i j (p .shape)) t p e h x y j f (λ T a l q. rw f (record {
-        a = a; less = l; part = q; nodes-are = omega arith; iterators-are = omega arith; made-are = λ n m z. rw (moved n m 0 refl z) refl }))
+        a = a;
+        less = l;
+        part = q;
+        nodes-are = omega arith;
+        iterators-are = omega arith;
+        made-are = λ n m z. rw (moved n m 0 refl z) refl;
+      }))
 
   pub two : (j k : ℕ) → (p .shape ≡ Application j k) ⊎ ((p .shape ≡ Pair j k) ⊎ ((x : ℕ) × (y : ℕ) × (p .shape ≡ Let x y j k))) → Two parts i j k (p .shape) t
   two j k (inl f) =
       as-application parts i (Two parts i j k (p .shape)) t p e h j k f (λ a b l l′ q q′. rw f (record {
-        a = a; b = b; less = l; less′ = l′; part = q; part′ = q′; nodes-are = omega arith; iterators-are = omega arith; made-are = λ n m o z w. rw (moved n m 0 refl z, w) refl }))
+        a = a;
+        b = b;
+        less = l;
+        less′ = l′;
+        part = q;
+        part′ = q′;
+        nodes-are = omega arith;
+        iterators-are = omega arith;
+        made-are = λ n m o z w. rw (moved n m 0 refl z, w) refl;
+      }))
   two j k (inr (inl f)) =
       as-pair parts i (Two parts i j k (p .shape)) t p e h j k f (λ a b l l′ q q′. rw f (record {
-        a = a; b = b; less = l; less′ = l′; part = q; part′ = q′; nodes-are = omega arith; iterators-are = omega arith; made-are = λ n m o z w. rw (moved n m 0 refl z, w) refl }))
+        a = a;
+        b = b;
+        less = l;
+        less′ = l′;
+        part = q;
+        part′ = q′;
+        nodes-are = omega arith;
+        iterators-are = omega arith;
+        made-are = λ n m o z w. rw (moved n m 0 refl z, w) refl;
+      }))
   two j k (inr (inr (x, y, f))) =
       as-let parts i (Two parts i j k (p .shape)) t p e h x y j k f (λ a b l l′ q q′. rw f (record {
-        a = a; b = b; less = l; less′ = l′; part = q; part′ = q′; nodes-are = omega arith; iterators-are = omega arith; made-are = λ n m o z w. rw (moved n m 0 refl z, w) refl }))
+        a = a;
+        b = b;
+        less = l;
+        less′ = l′;
+        part = q;
+        part′ = q′;
+        nodes-are = omega arith;
+        iterators-are = omega arith;
+        made-are = λ n m o z w. rw (moved n m 0 refl z, w) refl;
+      }))
 
   pub three : (j k l : ℕ) → p .shape ≡ Iterator j k l → Three parts i j k l (p .shape) t
   three j k l f =
       as-iterator parts i (Three parts i j k l (p .shape)) t p e h j k l f (λ a b c z z′ z″ q q′ q″. rw f (record {
-        a = a; b = b; c = c; less = z; less′ = z′; less″ = z″; part = q; part′ = q′; part″ = q″; nodes-are = omega arith; iterators-are = omega arith;
-        made-are = λ n m o r x y w. (let x′ : m ≡ suc n = omega arith in rw (w, y, x′) refl) }))
+        a = a;
+        b = b;
+        c = c;
+        less = z;
+        less′ = z′;
+        less″ = z″;
+        part = q;
+        part′ = q′;
+        part″ = q″;
+        nodes-are = omega arith;
+        iterators-are = omega arith;
+        made-are = λ n m o r x y w. (let x′ : m ≡ suc n = omega arith in rw (w, y, x′) refl);
+      }))
 
 -- a construct's own nodes are among those of its term
 Among : Shape → Term → Type 0

@@ -13,9 +13,10 @@ use Rattle.geometry.specs.Derivations.{Apart, Distinct}
 use Rattle.geometry.proofs.Memory.{wiredCells-append}
 use Rattle.geometry.proofs.Local.{each-left, each-right, each-map, Same, same-bound, same-entered, same-crossings, local, Under, under-bound, under-entered}
 use Rattle.geometry.proofs.Names.{Distinct-left, Distinct-right}
+use Rattle.syntax.specs.declared.program.Shape.the-variants.{Iterator}
 use Rattle.network.specs.declared.part.Part.{Part}
 use Rattle.network.specs.Parts.{noPart, Linear, Holds}
-use Rattle.network.specs.Wiring.{starting, Below, Started, Numbered, Joinable, Crossed, Ready, Passable, Enclosed, Passed, Wirable, Wired}
+use Rattle.network.specs.Wiring.{starting, Below, ownWires, Started, Numbered, Joinable, Crossed, Ready, Passable, Enclosed, Passed, Wirable, Wired}
 use Rattle.network.proofs.Uses.{distinct, linear-succ, linear-lam, linear-app, linear-pair, linear-split, linear-iter}
 use Rattle.network.proofs.Laid.{own-among}
 use Rattle.network.proofs.Gathered.{below-long}
@@ -35,7 +36,12 @@ ready-part : {parts : List Part} {i size n : ℕ} {s : List ℕ} {t : Term} → 
 ready-part {s = s} r j size′ s′ u e h l z m b g =
     record {
       numbered = record { within = omega (arith, r .numbered .within, e); ports = r .numbered .ports };
-      holds = h; linear = l; small = omega (arith, z, r .small); below = below-long u (length s) (length s′) m b; started = g }
+      holds = h;
+      linear = l;
+      small = omega (arith, z, r .small);
+      below = below-long u (length s) (length s′) m b;
+      started = g;
+    }
 
 module _ {parts : List Part} {i k r : ℕ} {s : List ℕ} {size : ℕ} where
   -- the parts of each construct, in the order in which they are wired
@@ -44,7 +50,9 @@ module _ {parts : List Part} {i k r : ℕ} {s : List ℕ} {size : ℕ} where
       record {
         n = w .n;
         ready = ready-part (w .ready) j size′ s a g h (linear-succ (w .ready .linear)) (omega arith) refl (w .ready .below) (w .ready .started);
-        room = omega (arith, w .room, e); rooted = omega (arith, w .room, f) }
+        room = omega (arith, w .room, e);
+        rooted = omega (arith, w .room, f);
+      }
 
   pub in-lam : {x : ℕ} {T : Ty} {a : Term} (w : Wirable parts i k r s size (lam x T a)) (j k′ p size′ : ℕ) (s′ : List ℕ) → Holds parts j a → k′ ≡ suc k → p ≡ l2 k → size′ ≡ size → s′ ≡ set s x (l3 k) → Wirable parts j k′ p s′ size′ a
   in-lam {x} {T} {a} w j k′ p size′ s′ h e f g z =
@@ -55,7 +63,9 @@ module _ {parts : List Part} {i k r : ℕ} {s : List ℕ} {size : ℕ} where
       record {
         n = w .n;
         ready = ready-part (w .ready) j size′ s′ a g h (linear-lam (w .ready .linear) .0) (omega arith) (ap length z ∙ length-set s x (l3 k)) (b .1) v;
-        room = omega (arith, w .room, e); rooted = omega (arith, w .room, f) }
+        room = omega (arith, w .room, e);
+        rooted = omega (arith, w .room, f);
+      }
 
   -- the left of two parts
   in-left : {t a : Term} (w : Wirable parts i k r s size t) (j k′ p size′ : ℕ) → Holds parts j a → k′ ≡ suc k → p < 3 * w .n → size′ ≡ size → Linear a → subterms a ≤ subterms t → suc (nodes a) ≤ nodes t → Below (length s) a → EachVariable (Under (w .n) (starting s)) (free a) → Wirable parts j k′ p s size′ a
@@ -106,7 +116,9 @@ module _ {parts : List Part} {i k r : ℕ} {s : List ℕ} {size : ℕ} where
       record {
         n = w .n;
         ready = ready-part (w .ready) j size′ s a g h (linear-iter (w .ready .linear) .0) (omega arith) refl (w .ready .below .0) (each-left (Under (w .n) (starting s)) (free a) (free b ++ free c) (w .ready .started));
-        room = omega (arith, w .room, e); rooted = omega (arith, w .room, f) }
+        room = omega (arith, w .room, e);
+        rooted = omega (arith, w .room, f);
+      }
 
   ready-step : {a b c : Term} (w : Wirable parts i k r s size (iter a b c)) (j size′ : ℕ) (s₁ : List ℕ) → Holds parts j b → size′ ≡ size → Moved (free a) s s₁ → Ready parts j s₁ size′ (w .n) b
   ready-step {a} {b} {c} w j size′ s₁ h g m =
@@ -137,7 +149,9 @@ inside {i = i} {k = k} {s = s} {t = t} h s′ cs cs′ x p size′ e f =
     record {
       n = h .n;
       ready = ready-part (h .ready) i size′ s′ t e (h .ready .holds) (h .ready .linear) (omega arith) (x .long) (h .ready .below) v;
-      room = omega (arith, h .room); rooted = f }
+      room = omega (arith, h .room);
+      rooted = f;
+    }
 
 -- a part's wires, with its place, its root's port and its environment known by other names
 wires-at : (t : Term) (k k′ p p′ : ℕ) (e f : Env) → k ≡ k′ → p ≡ p′ → EachVariable (Same e f) (free t) → wires t k p e ≡ wires t k′ p′ f
@@ -162,7 +176,9 @@ wired-succ a k r k₁ p e s s₁ cs c₁ c₂ o f g w =
     record {
       next = omega (arith, w .next, f);
       written = then ((r, l2 k) ∷ []) (wires a (suc k) (l1 k) (starting s)) cs c₁ c₂ o (written-at a k₁ (suc k) p (l1 k) e s s₁ (starting s) c₁ c₂ w f g (same-all (starting s) (free a)));
-      long = w .long; same = w .same }
+      long = w .long;
+      same = w .same;
+    }
 
 pub wired-lam : (x : ℕ) (T : Ty) (a : Term) (k r k₁ p e o : ℕ) (s s₁ s₂ s₃ : List ℕ) (cs c₁ c₂ : List Cell) → x < length s → c₁ ≡ wiredCells ((r, l1 k) ∷ []) cs → s₁ ≡ set s x (l3 k) → o ≡ starting s x → k₁ ≡ suc k → p ≡ l2 k → Wired a k₁ p e s₁ s₂ c₁ c₂ → s₃ ≡ set s₂ x o → Wired (lam x T a) k r e s s₃ cs c₂
 wired-lam x T a k r k₁ p e o s s₁ s₂ s₃ cs c₁ c₂ l z y q f g w v =
@@ -172,7 +188,9 @@ wired-lam x T a k r k₁ p e o s s₁ s₂ s₃ cs c₁ c₂ l z y q f g w v =
     record {
       next = omega (arith, w .next, f);
       written = then ((r, l1 k) ∷ []) (wires a (suc k) (l2 k) (put (starting s) x (l3 k))) cs c₁ c₂ z (written-at a k₁ (suc k) p (l2 k) e s₁ s₂ (put (starting s) x (l3 k)) c₁ c₂ w f g u);
-      long = m .long; same = m .same }
+      long = m .long;
+      same = m .same;
+    }
 
 -- two parts, one after the other
 two : (own : List Wire) (a b : Term) (k k₁ k₂ p p′ q q′ e : ℕ) (s s₁ s₂ : List ℕ) (cs c₁ c₂ c₃ : List Cell) → c₁ ≡ wiredCells own cs → k₁ ≡ suc k → p ≡ p′ → q ≡ q′ → Wired a k₁ p k₂ s s₁ c₁ c₂ → Wired b k₂ q e s₁ s₂ c₂ c₃ → Distinct (free a ++ free b) → c₃ ≡ wiredCells (own ++ (wires a (suc k) p′ (starting s) ++ wires b (suc k + nodes a) q′ (starting s))) cs
@@ -213,7 +231,9 @@ wired-split x y a b k r k₁ k₂ p e o o′ s s₁ s₂ s₃ s₄ s₅ s₆ cs 
     record {
       next = omega (arith, v .next, w .next, f);
       written = then (wires a (suc k) (l1 k) (starting s)) (wires b (suc k + nodes a) r (put (put (starting s) x (l2 k)) y (l3 k))) cs c₂ c₃ (first ∙ ap (wiredCells (wires a (suc k) (l1 k) (starting s))) z) second;
-      long = all .long; same = all .same }
+      long = all .long;
+      same = all .same;
+    }
 
 -- a step or a base that passed its Transfer nodes
 pub passed-by : (t : Term) (k p r e : ℕ) (s s₁ s₂ : List ℕ) (c c₁ c₂ : List Cell) → r ≡ k + nodes t + length (free t) → Crossed (free t) (k + nodes t) s s₁ c c₁ → Wired t k p e s₁ s₂ c₁ c₂ → Passed t k p r s s₂ c c₂
@@ -240,16 +260,8 @@ passed-at t k k′ p p′ r f s s₁ c c₁ x g h m =
     let y : wires t k′ p′ (entered (free t) j e) ≡ wires t k′ p′ (entered (free t) j f) = local t k′ p′ (entered (free t) j e) (entered (free t) j f) (same-entered (free t) j e f (free t) m) in
     x .written ∙ ap (λ ws. wiredCells ws c) (ap (λ a. wiresOf a p) g ∙ (ap (λ b. wiresOf k′ b) h ∙ (ap (λ l. l ++ wires t k′ p′ (entered (free t) j e)) z ∙ ap (λ l. crossings (free t) j f ++ l) y)))
 
--- the wires of an iterator's own nodes
-abbrev pub ownOf : ℕ → ℕ → List Wire
-ownOf k r =
-    let c = suc k in
-    let c′ = suc c in
-    let m = suc c′ in
-    (r, l2 k) ∷ ((l3 k, l2 c) ∷ ((l1 c, l1 c′) ∷ ((l3 c′, l2 m) ∷ ((l3 c, l3 m) ∷ []))))
-
 pub wired-iter : (a b c : Term) (k r k₁ k₂ k₃ p q q′ e : ℕ) (s s₁ s₂ s₃ : List ℕ) (cs c₁ c₂ c₃ c₄ : List Cell) →
-    c₁ ≡ wiredCells (ownOf k r) cs → k₁ ≡ k + 4 → p ≡ l1 k → q ≡ l1 (k + 3) → q′ ≡ l2 (k + 2) →
+    c₁ ≡ wiredCells (ownWires (Iterator 0 0 0) k r (starting s)) cs → k₁ ≡ k + 4 → p ≡ l1 k → q ≡ l1 (k + 3) → q′ ≡ l2 (k + 2) →
     Wired a k₁ p k₂ s s₁ c₁ c₂ → Passed b k₂ q k₃ s₁ s₂ c₂ c₃ → Passed c k₃ q′ e s₂ s₃ c₃ c₄ →
     Distinct (free a ++ (free b ++ free c)) → Wired (iter a b c) k r e s s₃ cs c₄
 wired-iter a b c k r k₁ k₂ k₃ p q q′ e s s₁ s₂ s₃ cs c₁ c₂ c₃ c₄ z f g h h′ v x y d =
@@ -273,16 +285,21 @@ wired-iter a b c k r k₁ k₂ k₃ p q q′ e s s₁ s₂ s₃ cs c₁ c₂ c�
     let base = passed-at c k₃ ba q′ (l2 (suc (suc k))) e env s₂ s₃ c₃ c₄ y (omega (arith, x .next, v .next, f)) (omega (arith, h′)) uc in
     record {
       next = omega (arith, v .next, f, x .next, y .next);
-      written = then (ownOf k r) (counts ++ (steps ++ bases)) cs c₁ c₄ z (then counts (steps ++ bases) c₁ c₂ c₄ count (then steps bases c₂ c₃ c₄ step base));
-      long = all .long; same = all .same }
+      written = then (ownWires (Iterator 0 0 0) k r env) (counts ++ (steps ++ bases)) cs c₁ c₄ z (then counts (steps ++ bases) c₁ c₂ c₄ count (then steps bases c₂ c₃ c₄ step base));
+      long = all .long;
+      same = all .same;
+    }
 
 -- the wires of a construct itself go between ports of the network
 pub joinable : (parts : List Part) (i : ℕ) {k r : ℕ} {s : List ℕ} {size : ℕ} (t : Term) (p : Part) → getD parts i noPart ≡ p → Wirable parts i k r s size t → Joinable (p .shape) k r s size
 joinable parts i {k} {r} {s} {size} t p e w =
     record {
-      n = w .n; numbered = w .ready .numbered; rooted = w .rooted;
+      n = w .n;
+      numbered = w .ready .numbered;
+      rooted = w .rooted;
       room = omega (arith, w .room, own-among parts i t p e (w .ready .holds));
-      started = begun t p e (w .ready .holds) (w .ready .below) (w .ready .started) }
+      started = begun t p e (w .ready .holds) (w .ready .below) (w .ready .started);
+    }
   where
     begun : (t : Term) (p : Part) → getD parts i noPart ≡ p → Holds parts i t → Below (length s) t → EachVariable (Under (w .n) (starting s)) (free t) → Started (w .n) s (p .shape)
     begun (var x) p e h b u = subst (λ (q : Part). Started (w .n) s (q .shape)) (sym (h .is) ∙ e) (b, u .0)

@@ -6,8 +6,6 @@ ghost use lib.ListN.{length};
 ghost use Rattle.std.specs.Of.Vec.{vec-items, vec-len, vec-cap};
 ghost use Rattle.calculus.specs.Terms.{Term};
 ghost use Rattle.network.specs.Building.{Built, Needs, Checked, Drawable, Drawn};
-use cells::Cell;
-use cells::Kind;
 use crate::lay::lay;
 use crate::lay::lay_node;
 use crate::part::Next;
@@ -15,6 +13,8 @@ use crate::part::Part;
 use crate::plan::part_at;
 use crate::plan::plan;
 use crate::wire::wire;
+use cells::Cell;
+use cells::Kind;
 use grammar::accept;
 use language::workspace::Workspace;
 use std::alloc::AllocError;
@@ -23,6 +23,7 @@ use syntax::refusal::Fault;
 use syntax::refusal::Refusal;
 
 const SUBTERMS: usize = 2048;
+
 const PLACES: usize = 16_384;
 
 /// All that building works in, had before a text is looked at: a checker; the parts of a program; for each place in a text the port at which
@@ -57,7 +58,15 @@ fn draw(parts: &[Part], i: usize, starts: &mut [usize], uses: &mut Vec<usize>, c
     ensures room { λ _. ⌜ vec-cap (now (uses .exit)) ≡ vec-cap (now (uses .entry)) ⌝ }
 {
     lay_node(Kind::Root, 0, 0, cells);
-    lay(parts, i, Next { node: 1, iterator: 1 }, cells);
+    lay(
+        parts,
+        i,
+        Next {
+            node: 1,
+            iterator: 1,
+        },
+        cells,
+    );
     wire(parts, i, 1, 0, starts, uses, cells);
 }
 

@@ -9,11 +9,11 @@ ghost use Rattle.geometry.specs.Network.{bare, cellOf};
 ghost use Rattle.geometry.specs.Memory.{laid};
 ghost use Rattle.network.specs.Parts.{Holds};
 ghost use Rattle.network.specs.Laying.{ownNodes, ownIterators, Layable, LaidOut};
-use cells::Cell;
-use cells::Kind;
 use crate::part::Next;
 use crate::part::Part;
 use crate::plan::part_at;
+use cells::Cell;
+use cells::Kind;
 use syntax::program::Shape;
 
 // The link that stands for none.
@@ -44,9 +44,8 @@ fn lay_own(shape: Shape, next: Next, cells: &mut [Cell]) -> Next
         Shape::Variable(_) => return next,
         Shape::Number(n) => lay_node(Kind::Number, n, k, cells),
         Shape::Successor(_) => lay_node(Kind::Successor, 0, k, cells),
-        Shape::Function { .. } | Shape::Application(_, _) | Shape::Pair(_, _) | Shape::Let { .. } => {
-            lay_node(Kind::Multiplexer, 0, k, cells)
-        }
+        Shape::Function { .. } | Shape::Application(_, _) | Shape::Pair(_, _) | Shape::Let { .. } =>
+            { lay_node(Kind::Multiplexer, 0, k, cells) }
         Shape::Iterator { .. } => {
             lay_node(Kind::Iterator, 0, k, cells);
             lay_node(Kind::LeftCounter, 0, k + 1, cells);
@@ -94,7 +93,9 @@ pub fn lay(parts: &[Part], i: usize, next: Next, cells: &mut [Cell]) -> Next
         Shape::Application(t, u)
         | Shape::Pair(t, u)
         | Shape::Let {
-            pair: t, body: u, ..
+            pair: t,
+            body: u,
+            ..
         } => {
             let after = lay(parts, t, own, cells);
             lay(parts, u, after, cells)
@@ -102,7 +103,12 @@ pub fn lay(parts: &[Part], i: usize, next: Next, cells: &mut [Cell]) -> Next
         Shape::Iterator { count, step, base } => {
             let counted = lay(parts, count, own, cells);
             let stepped = lay(parts, step, counted, cells);
-            let passed = lay_transfers(part_at(parts, step).count.uses, next.iterator, stepped, cells);
+            let passed = lay_transfers(
+                part_at(parts, step).count.uses,
+                next.iterator,
+                stepped,
+                cells,
+            );
             let based = lay(parts, base, passed, cells);
             lay_transfers(part_at(parts, base).count.uses, next.iterator, based, cells)
         }

@@ -13,10 +13,7 @@ use syntax::program::Subterm;
 // Stands for a part that is not there.
 const NO_PART: Part = Part {
     shape: Shape::Variable(0),
-    count: Count {
-        nodes: 0,
-        uses: 0,
-    },
+    count: Count { nodes: 0, uses: 0 },
 };
 
 pub fn part_at(parts: &[Part], i: usize) -> Part
@@ -83,10 +80,16 @@ fn count_of(parts: &[Part], shape: Shape) -> Count
             making(1, beside(count_at(parts, t), count_at(parts, u)))
         }
         Shape::Let { pair, body, .. } => {
-            making(1, beside(count_at(parts, pair), binding(2, count_at(parts, body))))
+            making(
+                1,
+                beside(count_at(parts, pair), binding(2, count_at(parts, body))),
+            )
         }
         Shape::Iterator { count, step, base } => {
-            let passed = beside(passing(count_at(parts, step)), passing(count_at(parts, base)));
+            let passed = beside(
+                passing(count_at(parts, step)),
+                passing(count_at(parts, base)),
+            );
             making(4, beside(count_at(parts, count), passed))
         }
     }

@@ -8,13 +8,13 @@ ghost use Rattle.calculus.specs.Terms.{Term, free, nodes};
 ghost use Rattle.geometry.specs.Memory.{wiredCells};
 ghost use Rattle.network.specs.Parts.{Holds};
 ghost use Rattle.network.specs.Wiring.{starting, inForce, Below, Gatherable, ownWires, Joinable, Crossable, Crossed, Passable, Enclosed, Passed, Wirable, Wired};
-use cells::Cell;
 use crate::part::Part;
 use crate::plan::part_at;
 use crate::ports::join;
 use crate::ports::l1;
 use crate::ports::l2;
 use crate::ports::l3;
+use cells::Cell;
 use syntax::program::Shape;
 
 // Stands in the table for a variable that is not in force.
@@ -99,7 +99,14 @@ fn cross(uses: &[usize], first: usize, starts: &mut [usize], cells: &mut [Cell])
 
 // Lets the variables free in part `i`, a step or a base whose nodes are numbered from `k` on, pass the Transfer nodes behind these.
 // Gives the number after them.
-fn pass(parts: &[Part], i: usize, k: usize, starts: &mut [usize], uses: &mut Vec<usize>, cells: &mut [Cell]) -> usize
+fn pass(
+    parts: &[Part],
+    i: usize,
+    k: usize,
+    starts: &mut [usize],
+    uses: &mut Vec<usize>,
+    cells: &mut [Cell],
+) -> usize
     requires part { ⌜ ((t : Term) × Passable (now parts) i k (now starts) (length (now cells)) t) ⌝ }
     requires room { ⌜ 2048 ≤ vec-cap (now uses) ⌝ }
     ensures passed { λ r. ⌜ ((t : Term) → Passable (now (parts .entry)) i k (now (starts .entry)) (length (now (cells .entry))) t → (r ≡ k + nodes t + length (free t)) × Crossed (free t) (k + nodes t) (now (starts .entry)) (now (starts .exit)) (now (cells .entry)) (now (cells .exit))) ⌝ }

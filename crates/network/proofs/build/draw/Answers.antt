@@ -19,6 +19,7 @@ pub returns : need.returns
 returns c =
     record {
       drawn = (λ t d.
-        (let l = laid-all t _ _ _ _ (c .lay-node .ensures) (c .lay .ensures t (d .holds)) in
-        drawn-all t _ _ _ _ _ _ (d .typed) l (c .wire .ensures .wired t (wirable-all _ _ _ _ _ _ d (omega arith)))));
-      room = c .wire .ensures .room }
+          (let l = laid-all t _ _ _ _ (c .lay-node .ensures) (c .lay .ensures t (d .holds)) in
+          drawn-all t _ _ _ _ _ _ (d .typed) l (c .wire .ensures .wired t (wirable-all _ _ _ _ _ _ d (omega arith)))));
+      room = c .wire .ensures .room;
+    }

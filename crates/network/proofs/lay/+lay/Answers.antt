@@ -61,11 +61,17 @@ lay-based-requires n c κs =
     let x = c .lay-counted .ensures (o .a) (o .part) in
     let y = c .lay-stepped .ensures (o .b) (o .part′) in
     let u = uses-are (c .args .parts .now) (c .in-Iterator .step) (o .b) (c .part-at .result) (c .part-at .ensures) (o .part′) in
-    let v = c .lay-transfers-passed .ensures .next in
-    (omega arith, (o .c, record {
-      holds = o .part″;
-      room = omega (arith, o .nodes-are, c .pre .1 .room, c .lay-own-own .ensures .node, x .node, y .node, u, v);
-      few = omega (arith, o .iterators-are, c .pre .1 .few, c .lay-own-own .ensures .iterator, x .iterator, y .iterator, v) }))
+    let v = c .lay-transfers-passed .ensures .next in (
+      omega arith,
+      (
+        o .c,
+        record {
+          holds = o .part″;
+          room = omega (arith, o .nodes-are, c .pre .1 .room, c .lay-own-own .ensures .node, x .node, y .node, u, v);
+          few = omega (arith, o .iterators-are, c .pre .1 .few, c .lay-own-own .ensures .iterator, x .iterator, y .iterator, v);
+        },
+      ),
+    )
 
 pub lay-transfers-requires : need.lay-transfers-requires
 lay-transfers-requires n c κs =

@@ -121,11 +121,11 @@ pub returns-in-Function : need.returns-in-Function
 returns-in-Function n c =
     record {
       found = (λ t h b.
-        (let o = bound (c .args .parts .now) (c .args .i) t (c .part-at .result) (c .part-at .ensures) h (c .in-Function .binder) _ (c .in-Function .body) (c .in-Function .is) in
-        let l = o .below _ b in
-        let f = c .gather-in-Function .ensures .found (o .a) (o .part) (below-long (o .a) _ _ (omega arith) (l .1)) in
-        let g = f ∙ ap (λ s. (vec-items (c .args .uses .now)) ++ inForce s (free (o .a))) (c .rebind-outer .ensures .after) in
-        rw (o .free-is) (listed-bound (c .args .starts .now) _ _ (c .in-Function .binder) (free (o .a)) (l .0) g)));
+          (let o = bound (c .args .parts .now) (c .args .i) t (c .part-at .result) (c .part-at .ensures) h (c .in-Function .binder) _ (c .in-Function .body) (c .in-Function .is) in
+          let l = o .below _ b in
+          let f = c .gather-in-Function .ensures .found (o .a) (o .part) (below-long (o .a) _ _ (omega arith) (l .1)) in
+          let g = f ∙ ap (λ s. (vec-items (c .args .uses .now)) ++ inForce s (free (o .a))) (c .rebind-outer .ensures .after) in
+          rw (o .free-is) (listed-bound (c .args .starts .now) _ _ (c .in-Function .binder) (free (o .a)) (l .0) g)));
       kept = restored (c .args .starts .now) (c .gather-in-Function .last .starts) _ (c .in-Function .binder) absent _ (c .gather-in-Function .ensures .kept ∙ c .rebind-outer .ensures .after) (c .rebind-outer .ensures .before) (c .rebind .ensures .after);
       room = c .gather-in-Function .ensures .room;
     }
@@ -142,15 +142,15 @@ returns-in-Let n c =
     let inner = restored s₂ s₄ (c .rebind-in-Let .last .starts) y absent _ (c .gather-in-Let-2 .ensures .kept ∙ c .rebind-other .ensures .after) (c .rebind-other .ensures .before) (c .rebind-in-Let .ensures .after) in
     record {
       found = (λ t h b.
-        (let o = split (c .args .parts .now) (c .args .i) t (c .part-at .result) (c .part-at .ensures) h x y (c .in-Let .pair) (c .in-Let .body) (c .in-Let .is) in
-        let l = o .below _ b in
-        let us = vec-items (c .gather-in-Let .last .uses) in
-        let f = c .gather-in-Let .ensures .found (o .a) (o .part) (l .2) in
-        let g = c .gather-in-Let-2 .ensures .found (o .b) (o .part′) (below-long (o .b) _ _ (omega arith) (l .3)) in
-        let z = c .rebind-other .ensures .after ∙ (ap (λ q. set q y absent) (c .rebind-outer-in-Let .ensures .after) ∙ ap (λ q. set (set q x absent) y absent) e) in
-        let i = listed-bound (set s x absent) us _ y (free (o .b)) (omega (arith, l .1, length-set s x absent)) (g ∙ ap (λ q. us ++ inForce q (free (o .b))) z) in
-        let k = listed-bound s us _ x (without y (free (o .b))) (l .0) i in
-        rw (o .free-is) (listed-both s _ us _ (free (o .a)) (without x (without y (free (o .b)))) f k)));
+          (let o = split (c .args .parts .now) (c .args .i) t (c .part-at .result) (c .part-at .ensures) h x y (c .in-Let .pair) (c .in-Let .body) (c .in-Let .is) in
+          let l = o .below _ b in
+          let us = vec-items (c .gather-in-Let .last .uses) in
+          let f = c .gather-in-Let .ensures .found (o .a) (o .part) (l .2) in
+          let g = c .gather-in-Let-2 .ensures .found (o .b) (o .part′) (below-long (o .b) _ _ (omega arith) (l .3)) in
+          let z = c .rebind-other .ensures .after ∙ (ap (λ q. set q y absent) (c .rebind-outer-in-Let .ensures .after) ∙ ap (λ q. set (set q x absent) y absent) e) in
+          let i = listed-bound (set s x absent) us _ y (free (o .b)) (omega (arith, l .1, length-set s x absent)) (g ∙ ap (λ q. us ++ inForce q (free (o .b))) z) in
+          let k = listed-bound s us _ x (without y (free (o .b))) (l .0) i in
+          rw (o .free-is) (listed-both s _ us _ (free (o .a)) (without x (without y (free (o .b)))) f k)));
       kept = restored s₁ (c .rebind-in-Let .last .starts) _ x absent _ (inner ∙ c .rebind-outer-in-Let .ensures .after) (c .rebind-outer-in-Let .ensures .before) (c .rebind-in-Let-2 .ensures .after) ∙ e;
       room = c .gather-in-Let-2 .ensures .room ∙ c .gather-in-Let .ensures .room;
     }
@@ -162,15 +162,15 @@ returns-in-Iterator n c =
     let e′ = c .gather-in-Iterator-2 .ensures .kept ∙ e in
     record {
       found = (λ t h b.
-        (let o = three (c .args .parts .now) (c .args .i) t (c .part-at .result) (c .part-at .ensures) h (c .in-Iterator .count) (c .in-Iterator .step) (c .in-Iterator .base) (c .in-Iterator .is) in
-        let l = o .below _ b in
-        let us = vec-items (c .gather-in-Iterator .last .uses) in
-        let us′ = vec-items (c .gather-in-Iterator-2 .last .uses) in
-        let f = c .gather-in-Iterator .ensures .found (o .a) (o .part) (l .0) in
-        let g = c .gather-in-Iterator-2 .ensures .found (o .b) (o .part′) (below-long (o .b) _ _ (omega arith) (l .1)) in
-        let k = c .gather-in-Iterator-3 .ensures .found (o .c) (o .part″) (below-long (o .c) _ _ (omega arith) (l .2)) in
-        let r = listed-both s us us′ _ (free (o .b)) (free (o .c)) (g ∙ ap (λ q. us ++ inForce q (free (o .b))) e) (k ∙ ap (λ q. us′ ++ inForce q (free (o .c))) e′) in
-        rw (o .free-is) (listed-both s _ us _ (free (o .a)) (free (o .b) ++ free (o .c)) f r)));
+          (let o = three (c .args .parts .now) (c .args .i) t (c .part-at .result) (c .part-at .ensures) h (c .in-Iterator .count) (c .in-Iterator .step) (c .in-Iterator .base) (c .in-Iterator .is) in
+          let l = o .below _ b in
+          let us = vec-items (c .gather-in-Iterator .last .uses) in
+          let us′ = vec-items (c .gather-in-Iterator-2 .last .uses) in
+          let f = c .gather-in-Iterator .ensures .found (o .a) (o .part) (l .0) in
+          let g = c .gather-in-Iterator-2 .ensures .found (o .b) (o .part′) (below-long (o .b) _ _ (omega arith) (l .1)) in
+          let k = c .gather-in-Iterator-3 .ensures .found (o .c) (o .part″) (below-long (o .c) _ _ (omega arith) (l .2)) in
+          let r = listed-both s us us′ _ (free (o .b)) (free (o .c)) (g ∙ ap (λ q. us ++ inForce q (free (o .b))) e) (k ∙ ap (λ q. us′ ++ inForce q (free (o .c))) e′) in
+          rw (o .free-is) (listed-both s _ us _ (free (o .a)) (free (o .b) ++ free (o .c)) f r)));
       kept = c .gather-in-Iterator-3 .ensures .kept ∙ e′;
       room = c .gather-in-Iterator-3 .ensures .room ∙ (c .gather-in-Iterator-2 .ensures .room ∙ c .gather-in-Iterator .ensures .room);
     }
@@ -180,12 +180,11 @@ returns-in-Application n c =
     let e = c .gather-in-Application .ensures .kept in
     record {
       found = (λ t h b.
-        (let o = two (c .args .parts .now) (c .args .i) t (c .part-at .result) (c .part-at .ensures) h (c .in-Application .t) (c .in-Application .u) (c .in-Application .is) in
-        let l = o .below _ b in
-        let f = c .gather-in-Application .ensures .found (o .a) (o .part) (l .0) in
-        let g = c .gather-in-Application-2 .ensures .found (o .b) (o .part′) (below-long (o .b) _ _ (omega arith) (l .1)) in
-        rw (o .free-is) (listed-both (c .args .starts .now) _ _ _ (free (o .a)) (free (o .b)) f (g ∙ ap (λ s. (vec-items (c .gather-in-Application .last .uses)) ++ inForce s (free (o .b))) e))));
+          (let o = two (c .args .parts .now) (c .args .i) t (c .part-at .result) (c .part-at .ensures) h (c .in-Application .t) (c .in-Application .u) (c .in-Application .is) in
+          let l = o .below _ b in
+          let f = c .gather-in-Application .ensures .found (o .a) (o .part) (l .0) in
+          let g = c .gather-in-Application-2 .ensures .found (o .b) (o .part′) (below-long (o .b) _ _ (omega arith) (l .1)) in
+          rw (o .free-is) (listed-both (c .args .starts .now) _ _ _ (free (o .a)) (free (o .b)) f (g ∙ ap (λ s. (vec-items (c .gather-in-Application .last .uses)) ++ inForce s (free (o .b))) e))));
       kept = c .gather-in-Application-2 .ensures .kept ∙ e;
       room = c .gather-in-Application-2 .ensures .room ∙ c .gather-in-Application .ensures .room;
     }
-

@@ -23,7 +23,8 @@ join-requires c κs =
     let b = c .rebind-outside .ensures .before in
     record {
       within = (omega (arith, h .started .0, h .numbered .within, b), omega (arith, h .room, h .numbered .within, c .l1 .ensures));
-      numbered = (omega (arith, h .started .0, h .numbered .ports, b), omega (arith, h .room, h .numbered .ports, c .l1 .ensures)) }
+      numbered = (omega (arith, h .started .0, h .numbered .ports, b), omega (arith, h .room, h .numbered .ports, c .l1 .ensures));
+    }
 
 pub loop-x-again : need.loop-x-again
 loop-x-again c =
@@ -40,12 +41,13 @@ loop-x-again c =
     let f : c .rebind-outside .last .starts ≡ set s x (l2 j) = c .rebind-outside .ensures .after ∙ ap (λ p. set s x p) (c .l2 .ensures) in
     let g = joined-at cs _ _ _ (starting s x) (l1 j) (c .join .ensures) (c .rebind-outside .ensures .before) (c .l1 .ensures) in
     let rest = drop (i + 1) us in
-    let s′ = c .rebind-outside .last .starts in
-    (omega arith,
-    crossable-rest x rest j s (length cs) h (j + 1) _ s′ e (omega arith) f,
-    wired-rest x rest j s (length cs) h (j + 1) s′ cs _ e f g ∙ (ap (λ q. wiredCells (crossings q j (starting s)) cs) (sym d) ∙ c .loop-x .inv .2),
-    (λ y. entered-rest x rest j s (length cs) h (j + 1) s′ e f y ∙ (ap (λ q. entered q j (starting s) y) (sym d) ∙ c .loop-x .inv .3 y)),
-    omega arith)
+    let s′ = c .rebind-outside .last .starts in (
+      omega arith,
+      crossable-rest x rest j s (length cs) h (j + 1) _ s′ e (omega arith) f,
+      wired-rest x rest j s (length cs) h (j + 1) s′ cs _ e f g ∙ (ap (λ q. wiredCells (crossings q j (starting s)) cs) (sym d) ∙ c .loop-x .inv .2),
+      (λ y. entered-rest x rest j s (length cs) h (j + 1) s′ e f y ∙ (ap (λ q. entered q j (starting s) y) (sym d) ∙ c .loop-x .inv .3 y)),
+      omega arith,
+    )
 
 pub returns : need.returns
 returns c =
@@ -56,4 +58,5 @@ returns c =
     record {
       written = ap (λ q. wiredCells (crossings q j (starting (c .loop-x .starts))) (c .loop-x .cells)) (sym d) ∙ c .loop-x .inv .2;
       inside = λ y. ap (λ q. entered q j (starting (c .loop-x .starts)) y) (sym d) ∙ c .loop-x .inv .3 y;
-      long = c .loop-x .inv .4 }
+      long = c .loop-x .inv .4;
+    }

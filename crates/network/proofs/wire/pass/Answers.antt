@@ -14,7 +14,8 @@ gather-requires c κs =
     let e = ap length (c .clear .ensures .items) in
     record {
       part = (c .pre .part .0, record { holds = h .ready .holds; below = h .ready .below; room = omega (arith, e, h .ready .small) });
-      room = omega (arith, c .pre .room, c .clear .ensures .capacity) }
+      room = omega (arith, c .pre .room, c .clear .ensures .capacity);
+    }
 
 pub cross-requires : need.cross-requires
 cross-requires c κs =
@@ -44,9 +45,10 @@ pub returns : need.returns
 returns c =
     record {
       passed = (λ t h.
-        (let f = c .gather .ensures .found t (h .ready .holds) (h .ready .below) in
-        let g = gathered (h .n) _ (c .args .starts .now) _ _ t (h .ready .numbered) (h .ready .started) (c .clear .ensures .items) f in
-        let e = c .deref .ensures .value ∙ g in
-        let z = nodes-are (c .args .parts .now) (c .args .i) t (c .part-at .result) (c .part-at .ensures) (h .ready .holds) in
-        (omega (arith, c .len .ensures, c .gather .last .uses .ok .0, ap length g, z), crossed-by e (ap (λ q. c .args .k + q) z) (c .gather .ensures .kept) (c .cross .ensures))));
-      room = c .gather .ensures .room ∙ c .clear .ensures .capacity }
+          (let f = c .gather .ensures .found t (h .ready .holds) (h .ready .below) in
+          let g = gathered (h .n) _ (c .args .starts .now) _ _ t (h .ready .numbered) (h .ready .started) (c .clear .ensures .items) f in
+          let e = c .deref .ensures .value ∙ g in
+          let z = nodes-are (c .args .parts .now) (c .args .i) t (c .part-at .result) (c .part-at .ensures) (h .ready .holds) in
+          (omega (arith, c .len .ensures, c .gather .last .uses .ok .0, ap length g, z), crossed-by e (ap (λ q. c .args .k + q) z) (c .gather .ensures .kept) (c .cross .ensures))));
+      room = c .gather .ensures .room ∙ c .clear .ensures .capacity;
+    }

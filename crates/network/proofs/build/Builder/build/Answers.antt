@@ -35,7 +35,8 @@ draw-requires c κs =
     let r : 1 + nodes (termOf (v .0)) ≤ length (c .args .cells .now) = omega (arith, c .if-nodes-cells .left, nodes-are _ _ (termOf (v .0)) _ e (v .2)) in
     record {
       program = (termOf (v .0), drawable _ (v .0) (v .1) _ _ _ _ h (c .deref-mut .ensures .len ∙ c .args .self .now .places) r);
-      room = c .args .self .now .«uses_fit» }
+      room = c .args .self .now .«uses_fit»;
+    }
 
 pub returns : need.returns
 returns c =
