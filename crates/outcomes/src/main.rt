@@ -33,7 +33,12 @@ fn line_end(texts: &[u8]) -> usize
 }
 
 // Writes how the program of one text ends to the front of the line, and returns the length.
-fn tell(builder: &mut Builder, reserve: &mut Reserve, text: &[u8], line: &mut [u8]) -> Result<usize, AnyError>
+fn tell(
+    builder: &mut Builder,
+    reserve: &mut Reserve,
+    text: &[u8],
+    line: &mut [u8],
+) -> Result<usize, AnyError>
     ensures { λ r. ⌜ made r (λ n. n ≤ length (now (line .exit))) ⌝ }
 {
     let shown = match open(builder, text, reserve.lend(), DataCell::Question) {
