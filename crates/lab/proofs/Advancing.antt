@@ -37,9 +37,9 @@ stays p q h = let none = go-none step p in cc
 begins : (g : ℕ) (p q : Place State) → go step (suc g) p ≡ to q → (r : Place State) × (step p ≡ to r) × (go step g r ≡ to q)
 begins g p q h = by (step p) refl (sym (go-first step g p) ∙ h)
   where
-  by : (o : Next (Place State)) → step p ≡ o → then o (go step g) ≡ to q → (r : Place State) × (step p ≡ to r) × (go step g r ≡ to q)
-  by (to r) e k = (r, e, k)
-  by (ends w) e k = absurd (let z : _≡_ {A = ℕ} 0 1 = cc in omega arith)
+    by : (o : Next (Place State)) → step p ≡ o → then o (go step g) ≡ to q → (r : Place State) × (step p ≡ to r) × (go step g r ≡ to q)
+    by (to r) e k = (r, e, k)
+    by (ends w) e k = absurd (let z : _≡_ {A = ℕ} 0 1 = cc in omega arith)
 
 -- there is a line after the first
 last-after : (m : ℕ) (l : List ℕ) (r : Place State) → lastOf (l ∷ lines m r) ≡ lastOf (lines m r)
@@ -51,12 +51,12 @@ last-after (suc m) l r = refl
 last-line : (n g : ℕ) (why : Option Reason) (p q : Place State) → Granted step n p q (g, why) → lastOf (lines n p) ≡ endLine why q
 last-line n zero (Some w) p q h = stop n (h .why .0)
   where
-  same : p ≡ q
-  same = stays p q (h .came)
+    same : p ≡ q
+    same = stays p q (h .came)
 
-  stop : (m : ℕ) → 0 < m → lastOf (lines m p) ≡ endLine (Some w) q
-  stop zero k = absurd (omega arith)
-  stop (suc m) k = ap lastOf (one-left m p (ends w) (ap step same ∙ h .why .1)) ∙ ap (endLine (Some w)) same
+    stop : (m : ℕ) → 0 < m → lastOf (lines m p) ≡ endLine (Some w) q
+    stop zero k = absurd (omega arith)
+    stop (suc m) k = ap lastOf (one-left m p (ends w) (ap step same ∙ h .why .1)) ∙ ap (endLine (Some w)) same
 last-line zero zero None p q h = ap lastOf (none-left p) ∙ ap (endLine None) (stays p q (h .came))
 last-line (suc n) zero None p q h = absurd (let e = h .why in omega arith)
 last-line zero (suc g) None p q h = absurd (let e = h .why in omega arith)
@@ -65,9 +65,9 @@ last-line (suc n) (suc g) why p q h =
     let (r, e, k) = begins g p q (h .came) in
     ap lastOf (one-left n p (to r) e) ∙ last-after n (lineAt p) r ∙ last-line n g why r q (record { came = k; why = fewer why (h .why) })
   where
-  fewer : (why : Option Reason) → Why (step q) (suc n) (suc g) why → Why (step q) n g why
-  fewer None e = omega arith
-  fewer (Some w) e = let lt = e .0 in (omega arith, e .1)
+    fewer : (why : Option Reason) → Why (step q) (suc n) (suc g) why → Why (step q) n g why
+    fewer None e = omega arith
+    fewer (Some w) e = let lt = e .0 in (omega arith, e .1)
 
 -- what was asked for was granted
 granted : (k : ℕ) (p q : Place State) (a : Grant) → k ≤ 1000000 → Asked Up next turned k p q a → Granted step k p q a

@@ -102,9 +102,9 @@ module _ (v : ℕ) (ls : List Letter) (ss : List (List IterCell)) where
   low-changed (push l) cs ds h t = record { datas = h .datas; iters = h .iters; shelves = h .shelves }
   low-changed (pop l) cs ds h t = low-popped ls
     where
-    low-popped : (ms : List Letter) → Low (byTop (stacks cs ds) (λ _ rest. record { letters = rest; iters = cs; datas = ds; shelves = ss }) ms)
-    low-popped [] = h
-    low-popped (m ∷ ms) = record { datas = h .datas; iters = h .iters; shelves = h .shelves }
+      low-popped : (ms : List Letter) → Low (byTop (stacks cs ds) (λ _ rest. record { letters = rest; iters = cs; datas = ds; shelves = ss }) ms)
+      low-popped [] = h
+      low-popped (m ∷ ms) = record { datas = h .datas; iters = h .iters; shelves = h .shelves }
   low-changed pose cs ds h t = record { datas = (tt, h .datas); iters = h .iters; shelves = h .shelves }
   low-changed withdraw cs [] h t = h
   low-changed withdraw cs (d ∷ ds) h t = record { datas = h .datas .1; iters = h .iters; shelves = h .shelves }
@@ -205,16 +205,16 @@ none-held (suc n) = let h = none-held n in omega arith
 entrance-low : (ns : List Node) → entrance ns ≤ 3 * length ns
 entrance-low ns = by (inside ns (link ns 0)) refl
   where
-  by : (b : Bool) → inside ns (link ns 0) ≡ b → cond b (link ns 0) 0 ≤ 3 * length ns
-  by true h = let low = inside-low ns (link ns 0) h in omega arith
-  by false h = omega arith
+    by : (b : Bool) → inside ns (link ns 0) ≡ b → cond b (link ns 0) 0 ≤ 3 * length ns
+    by true h = let low = inside-low ns (link ns 0) h in omega arith
+    by false h = omega arith
 
 pub bounded-open : (ns : List Node) (rs : Rooms) (d : DataCell) → LowData d → Bounded 0 (opened ns rs d)
 bounded-open ns rs d h = by (eqb (rs .datas) 0) refl
   where
-  by : (b : Bool) → eqb (rs .datas) 0 ≡ b → Bounded 0 (record { nodes = ns; from = 0; to = entrance ns; stacks = record { letters = []; iters = []; datas = cond b [] (d ∷ []); shelves = replicate 64 [] }; rooms = rs })
-  by true e = record { from = omega arith; to = entrance-low ns; letters = omega arith; iters = omega arith; datas = omega arith; low = record { datas = tt; iters = tt; shelves = none-shelved 64 }; held = omega (arith, none-held 64) }
-  by false e = record { from = omega arith; to = entrance-low ns; letters = omega arith; iters = omega arith; datas = let ne = eqb-false (rs .datas) 0 e in omega arith; low = record { datas = (h, tt); iters = tt; shelves = none-shelved 64 }; held = omega (arith, none-held 64) }
+    by : (b : Bool) → eqb (rs .datas) 0 ≡ b → Bounded 0 (record { nodes = ns; from = 0; to = entrance ns; stacks = record { letters = []; iters = []; datas = cond b [] (d ∷ []); shelves = replicate 64 [] }; rooms = rs })
+    by true e = record { from = omega arith; to = entrance-low ns; letters = omega arith; iters = omega arith; datas = omega arith; low = record { datas = tt; iters = tt; shelves = none-shelved 64 }; held = omega (arith, none-held 64) }
+    by false e = record { from = omega arith; to = entrance-low ns; letters = omega arith; iters = omega arith; datas = let ne = eqb-false (rs .datas) 0 e in omega arith; low = record { datas = (h, tt); iters = tt; shelves = none-shelved 64 }; held = omega (arith, none-held 64) }
 
 pub bounded-step : (k : ℕ) (s t : State) → Bounded k s → next s ≡ to t → Bounded (suc k) t
 bounded-step k s t b e =

@@ -45,7 +45,7 @@ opens text m first token n (t, a, stored, trusted) long state =
       state = state ∙ ap (λ ns. opened ns (roomsIn m) first) seen;
       home = λ none high signs. session-home text t a none (nodesOf rest) (length (now (m .letters))) (length (now (m .iters))) (length (now (m .datas))) (length (now (m .shelves))) high signs;
       short = λ small low.
-        let count = nodes-length cells in
-        let modest : Modest (nodesOf cells) (roomsIn m) = record { nodes = let h = small .cells in omega arith; letters = let h = small .letters in omega arith; iters = let h = small .iters in omega arith; datas = let h = small .datas in omega arith } in
-        subst (λ s. Every (λ l. length l ≤ lineRoom) (listing s)) (sym state) (lines-fit (nodesOf cells) (roomsIn m) first modest low);
+          let count = nodes-length cells in
+          let modest : Modest (nodesOf cells) (roomsIn m) = record { nodes = let h = small .cells in omega arith; letters = let h = small .letters in omega arith; iters = let h = small .iters in omega arith; datas = let h = small .datas in omega arith } in
+          subst (λ s. Every (λ l. length l ≤ lineRoom) (listing s)) (sym state) (lines-fit (nodesOf cells) (roomsIn m) first modest low);
     }

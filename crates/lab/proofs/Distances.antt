@@ -83,9 +83,10 @@ pub distances-of-walks : DistancesOfWalks
 distances-of-walks ns rs = record {
   brings = brings ns rs;
   returns = λ {p = p} {a = a} run does n.
-    let told = tells does in
-    let known = brings ns rs run n in
-    (λ e. known .0 (some-told (numberOf (p .state)) n (sym told ∙ e)),
-     λ w. told ∙ ap (λ o. answer.Read (number (orNone o))) (known .1 w));
+      let told = tells does in
+      let known = brings ns rs run n in (
+        λ e. known .0 (some-told (numberOf (p .state)) n (sym told ∙ e)),
+        λ w. told ∙ ap (λ o. answer.Read (number (orNone o))) (known .1 w),
+      );
   distances = distances-agree ns rs;
 }

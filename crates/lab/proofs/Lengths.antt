@@ -140,9 +140,9 @@ short zero k s few b m =
     subst (Every (λ l. length l ≤ lineRoom)) (sym (no-steps-left k s)) (line-short k s (omega arith) b m, (end-short k s (omega arith) b m None, tt))
 short (suc left) k s few b m = by (next s) refl (λ u e. short left (suc k) u (omega arith) (bounded-step k s u b e) (modest-step s u e m))
   where
-  by : (o : Next State) → next s ≡ o → ((u : State) → next s ≡ to u → Every (λ l. length l ≤ lineRoom) (lines left (placed (suc k) u))) → Every (λ l. length l ≤ lineRoom) (lines (suc left) (placed k s))
-  by (to u) e rest = subst (Every (λ l. length l ≤ lineRoom)) (sym (goes-on left k s (omega arith) u e)) (line-short k s (omega arith) b m, rest u e)
-  by (ends w) e rest = subst (Every (λ l. length l ≤ lineRoom)) (sym (stops-here left k s (omega arith) w e)) (line-short k s (omega arith) b m, (end-short k s (omega arith) b m (Some w), tt))
+    by : (o : Next State) → next s ≡ o → ((u : State) → next s ≡ to u → Every (λ l. length l ≤ lineRoom) (lines left (placed (suc k) u))) → Every (λ l. length l ≤ lineRoom) (lines (suc left) (placed k s))
+    by (to u) e rest = subst (Every (λ l. length l ≤ lineRoom)) (sym (goes-on left k s (omega arith) u e)) (line-short k s (omega arith) b m, rest u e)
+    by (ends w) e rest = subst (Every (λ l. length l ≤ lineRoom)) (sym (stops-here left k s (omega arith) w e)) (line-short k s (omega arith) b m, (end-short k s (omega arith) b m (Some w), tt))
 
 pub lines-fit : LinesFit
 lines-fit ns rs d m h = short longest 0 (opened ns rs d) (omega arith) (bounded-open ns rs d h) m

@@ -26,9 +26,9 @@ may-next k s o h e =
     ∙ ap (λ x. then x (λ y. to (place y (pos (k + 1))))) e
     ∙ on o
   where
-  on : (x : Next State) → then x (λ y. to (place y (pos (k + 1)))) ≡ then x (λ t. to (placed (suc k) t))
-  on (to y) = let same : k + 1 ≡ suc k = omega arith in ap (λ n. to (placed n y)) same
-  on (ends w) = refl
+    on : (x : Next State) → then x (λ y. to (place y (pos (k + 1)))) ≡ then x (λ t. to (placed (suc k) t))
+    on (to y) = let same : k + 1 ≡ suc k = omega arith in ap (λ n. to (placed n y)) same
+    on (ends w) = refl
 
 module _ (left k : ℕ) (s : State) (low : k < 2000000000) where
   pub goes-on : (u : State) → next s ≡ to u → lines (suc left) (placed k s) ≡ lineAt (placed k s) ∷ lines left (placed (suc k) u)
@@ -52,9 +52,9 @@ no-steps-left k s = refl
 begins : (j : ℕ) (s t : State) → go next (suc j) s ≡ to t → (u : State) × (next s ≡ to u) × (go next j u ≡ to t)
 begins j s t h = by (next s) refl (sym (go-first next j s) ∙ h)
   where
-  by : (o : Next State) → next s ≡ o → then o (go next j) ≡ to t → (u : State) × (next s ≡ to u) × (go next j u ≡ to t)
-  by (to u) e g = (u, e, g)
-  by (ends w) e g = absurd (let z : _≡_ {A = ℕ} 0 1 = cc in omega arith)
+    by : (o : Next State) → next s ≡ o → then o (go next j) ≡ to t → (u : State) × (next s ≡ to u) × (go next j u ≡ to t)
+    by (to u) e g = (u, e, g)
+    by (ends w) e g = absurd (let z : _≡_ {A = ℕ} 0 1 = cc in omega arith)
 
 stays : (s t : State) → go next 0 s ≡ to t → s ≡ t
 stays s t h = let none = go-none next s in cc
@@ -77,33 +77,37 @@ stopped-line : (left k j : ℕ) (s t : State) (w : Reason) → k + left ≤ long
 stopped-line zero k j s t w few h g e = absurd (omega arith)
 stopped-line (suc left) k zero s t w few h g e =
     let same : k + 0 ≡ k = omega arith in
-    let is = stops-here left k s (omega arith) w (ap next (stays s t g) ∙ e) in
-    (ap (λ ls. getD ls 1 []) is ∙ ap (λ u. endLine (Some w) (placed k u)) (stays s t g) ∙ ap (λ n. endLine (Some w) (placed n t)) (sym same),
-     ap length is)
+    let is = stops-here left k s (omega arith) w (ap next (stays s t g) ∙ e) in (
+      ap (λ ls. getD ls 1 []) is ∙ ap (λ u. endLine (Some w) (placed k u)) (stays s t g) ∙ ap (λ n. endLine (Some w) (placed n t)) (sym same),
+      ap length is,
+    )
 stopped-line (suc left) k (suc j) s t w few h g e =
     let (u, f, rest) = begins j s t g in
     let same : suc k + j ≡ k + suc j = omega arith in
     let is = goes-on left k s (omega arith) u f in
     let (end, long) = stopped-line left (suc k) j u t w (omega arith) (omega arith) rest e in
-    let place : suc j + 1 ≡ suc (j + 1) = omega arith in
-    (ap (λ ls. getD ls (suc j + 1) []) is ∙ ap (λ n. getD (lineAt (placed k s) ∷ lines left (placed (suc k) u)) n []) place ∙ end ∙ ap (λ n. endLine (Some w) (placed n t)) same,
-     ap length is ∙ (let more = long in omega arith))
+    let place : suc j + 1 ≡ suc (j + 1) = omega arith in (
+      ap (λ ls. getD ls (suc j + 1) []) is ∙ ap (λ n. getD (lineAt (placed k s) ∷ lines left (placed (suc k) u)) n []) place ∙ end ∙ ap (λ n. endLine (Some w) (placed n t)) same,
+      ap length is ∙ (let more = long in omega arith),
+    )
 
 -- where it is cut off after all the steps
 cut-line : (left k : ℕ) (s t : State) → k + left ≤ longest → go next left s ≡ to t → (getD (lines left (placed k s)) (left + 1) [] ≡ endLine None (placed (k + left) t)) × (length (lines left (placed k s)) ≡ left + 2)
 cut-line zero k s t few g =
     let same : k + 0 ≡ k = omega arith in
-    let is = no-steps-left k s in
-    (ap (λ ls. getD ls 1 []) is ∙ ap (λ u. endLine None (placed k u)) (stays s t g) ∙ ap (λ n. endLine None (placed n t)) (sym same),
-     ap length is)
+    let is = no-steps-left k s in (
+      ap (λ ls. getD ls 1 []) is ∙ ap (λ u. endLine None (placed k u)) (stays s t g) ∙ ap (λ n. endLine None (placed n t)) (sym same),
+      ap length is,
+    )
 cut-line (suc left) k s t few g =
     let (u, f, rest) = begins left s t g in
     let same : suc k + left ≡ k + suc left = omega arith in
     let is = goes-on left k s (omega arith) u f in
     let (end, long) = cut-line left (suc k) u t (omega arith) rest in
-    let place : suc left + 1 ≡ suc (left + 1) = omega arith in
-    (ap (λ ls. getD ls (suc left + 1) []) is ∙ ap (λ n. getD (lineAt (placed k s) ∷ lines left (placed (suc k) u)) n []) place ∙ end ∙ ap (λ n. endLine None (placed n t)) same,
-     ap length is ∙ (let more = long in omega arith))
+    let place : suc left + 1 ≡ suc (left + 1) = omega arith in (
+      ap (λ ls. getD ls (suc left + 1) []) is ∙ ap (λ n. getD (lineAt (placed k s) ∷ lines left (placed (suc k) u)) n []) place ∙ end ∙ ap (λ n. endLine None (placed n t)) same,
+      ap length is ∙ (let more = long in omega arith),
+    )
 
 at-zero : (j : ℕ) → 0 + j ≡ j
 at-zero j = omega arith
@@ -112,9 +116,9 @@ pub listings-tell : ListingsTell
 listings-tell s = record {
   each = λ k t h g. each-line longest 0 k s t (omega arith) h g ∙ ap (λ n. lineAt (placed n t)) (at-zero k);
   stopped = λ k t w h g e.
-    let (end, long) = stopped-line longest 0 k s t w (omega arith) h g e in
-    (end ∙ ap (λ n. endLine (Some w) (placed n t)) (at-zero k), long);
+      let (end, long) = stopped-line longest 0 k s t w (omega arith) h g e in
+      (end ∙ ap (λ n. endLine (Some w) (placed n t)) (at-zero k), long);
   cut = λ t g.
-    let (end, long) = cut-line longest 0 s t (omega arith) g in
-    (end ∙ ap (λ n. endLine None (placed n t)) (at-zero longest), long);
+      let (end, long) = cut-line longest 0 s t (omega arith) g in
+      (end ∙ ap (λ n. endLine None (placed n t)) (at-zero longest), long);
 }

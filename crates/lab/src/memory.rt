@@ -19,9 +19,13 @@ pub struct Memory<'a> {
 }
 
 const NODES: usize = 2_048;
+
 const LETTERS: usize = 256;
+
 const ITERS: usize = 256;
+
 const SHELVED: usize = 4_096;
+
 const DATAS: usize = 1_024;
 
 const BLANK: Cell = Cell {

@@ -1,6 +1,6 @@
 // Tells how many programs end: texts on standard input, one to a line, and for each the last line of its listing, or its refusal.
-ghost use mathlib.Core.Path.{_≡_};
-ghost use Prim.Native.Nat.{_<_};
+ghost use Rattle.std.specs.Vec.{made};
+ghost use Prim.Native.Nat.{_≤_};
 ghost use lib.ListN.{length};
 use lab::LINE;
 use lab::RefusedText;
@@ -33,7 +33,12 @@ fn line_end(texts: &[u8]) -> usize
 }
 
 // Writes how the program of one text ends to the front of the line, and returns the length.
-fn tell(builder: &mut Builder, reserve: &mut Reserve, text: &[u8], line: &mut [u8]) -> Result<usize, AnyError>
+fn tell(
+    builder: &mut Builder,
+    reserve: &mut Reserve,
+    text: &[u8],
+    line: &mut [u8],
+) -> Result<usize, AnyError>
     ensures { λ r. ⌜ made r (λ n. n ≤ length (now (line .exit))) ⌝ }
 {
     let shown = match open(builder, text, reserve.lend(), DataCell::Question) {
@@ -56,7 +61,10 @@ fn tell_all<W: Write>(out: &mut W, rt: &LibcRuntime, texts: &[u8]) -> Result<(),
         let end = line_end(rest);
         let n = tell(&mut builder, &mut reserve, &rest[0..end], &mut line)?;
         out.write_all(&line[0..n])?;
-        rest = if end < rest.len() { &rest[end + 1..] } else { &[] };
+        rest = match &rest[end..] {
+            [_, more @ ..] => more,
+            [] => &[],
+        };
     }
     Ok(())
 }

@@ -26,7 +26,11 @@ use token_machine::TokenMachine;
 const MOST: u64 = 16_385;
 
 // Writes the next line, if there is one.
-fn write_line<W: Write>(out: &mut W, listing: &mut Listing<'_>, line: &mut [u8]) -> Result<bool, AnyError>
+fn write_line<W: Write>(
+    out: &mut W,
+    listing: &mut Listing<'_>,
+    line: &mut [u8],
+) -> Result<bool, AnyError>
     ensures { λ r. ⌜ made r (λ b. (T b → length (restOf (now (listing .exit) .stage) (place (stateOf (now (listing .exit) .walk .machine)) (now (listing .exit) .walk .sum .value))) < length (restOf (now (listing .entry) .stage) (place (stateOf (now (listing .entry) .walk .machine)) (now (listing .entry) .walk .sum .value))))) ⌝ }
 {
     match listing.next_line(line) {
@@ -39,7 +43,11 @@ fn write_line<W: Write>(out: &mut W, listing: &mut Listing<'_>, line: &mut [u8])
     }
 }
 
-fn write_all_lines<W: Write>(out: &mut W, listing: &mut Listing<'_>, line: &mut [u8]) -> Result<(), AnyError> {
+fn write_all_lines<W: Write>(
+    out: &mut W,
+    listing: &mut Listing<'_>,
+    line: &mut [u8],
+) -> Result<(), AnyError> {
     while write_line(out, listing, line)? {}
     Ok(())
 }

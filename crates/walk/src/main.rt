@@ -7,9 +7,9 @@ use lab::Reserve;
 use lab::open;
 use lab::perform;
 use lab::show_text;
-use network::Builder;
 use machine::Grant;
 use machine::Walk;
+use network::Builder;
 use plan::Plan;
 use plan::read_plan;
 use runs::Answer;
@@ -77,7 +77,12 @@ fn write_answer<W: Write>(out: &mut W, answer: &Answer<Reply>) -> io::Result<()>
 }
 
 // Performs all the calls, and then writes each with its answer.
-fn act<W: Write>(out: &mut W, rt: &LibcRuntime, walk: &mut Walk<Token<'_>>, calls: &[Call<Query>]) -> io::Result<()> {
+fn act<W: Write>(
+    out: &mut W,
+    rt: &LibcRuntime,
+    walk: &mut Walk<Token<'_>>,
+    calls: &[Call<Query>],
+) -> io::Result<()> {
     let answers = perform(walk, calls, rt.alloc())?;
     for (call, answer) in calls.iter().zip(answers.iter()) {
         write_call(out, call)?;

@@ -44,7 +44,12 @@ pub fn read_plan(rt: &LibcRuntime) -> Result<Result<Plan, String>, AnyError> {
 
 impl Plan {
     // Takes one word, and says whether it is known. `waiting` is the word before it, if that wants a number.
-    fn take(&mut self, waiting: &mut Option<Counted>, begun: bool, word: &str) -> Result<bool, AllocError> {
+    fn take(
+        &mut self,
+        waiting: &mut Option<Counted>,
+        begun: bool,
+        word: &str,
+    ) -> Result<bool, AllocError> {
         if let Some(counted) = *waiting {
             let Ok(n) = word.parse::<u32>() else {
                 return Ok(false);

@@ -22,10 +22,10 @@ returns-in-Ok c =
     let long : length (c .build .last .cells) ≡ length (m .cells .now) = c .build .kept .cells in
     record {
       opened =
-        opens text m (c .args .first) token (c .in-Ok .field-0)
-        (subst (λ (cs : List Cell). Built text (m .cells .now) cs (Ok (c .in-Ok .field-0))) (sym same) (c .in-Ok .ensures tt))
-        (ap length same ∙ long)
-        (c .open .ensures .state ∙ ap (λ (cs : List Cell). opened (nodesOf cs) (roomsIn m) (c .args .first)) (sym same));
+          opens text m (c .args .first) token (c .in-Ok .field-0)
+          (subst (λ (cs : List Cell). Built text (m .cells .now) cs (Ok (c .in-Ok .field-0))) (sym same) (c .in-Ok .ensures tt))
+          (ap length same ∙ long)
+          (c .open .ensures .state ∙ ap (λ (cs : List Cell). opened (nodesOf cs) (roomsIn m) (c .args .first)) (sym same));
       exact = (c .texts-accepted-exactly .ensures .exactly, c .texts-accepted-exactly .ensures .rejected);
       whole = whole-walks token-run-law;
     }

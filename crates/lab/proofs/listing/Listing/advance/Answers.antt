@@ -29,10 +29,10 @@ returns c =
     let q = at (c .forward-why .last .self) in
     let g = c .forward-why .result .0 in
     elim (c .match-why .came) [
-      in-None w ↦
-        goes-on (c .args .left) p q g (c .if-left-eq0 .left) (subst (λ (o : Option Reason). Asked Up next turned 1 p q (g, o)) (w .in-None .is) (c .forward-why .ensures))
-        ∙ ap (λ (s : Stage). lineAt p ∷ restOf s q) (sym (w .self-is))
-    | in-Some w ↦
-        ends-here (c .args .left) p q g (w .in-Some .reason) (c .if-left-eq0 .left) (subst (λ (o : Option Reason). Asked Up next turned 1 p q (g, o)) (w .in-Some .is) (c .forward-why .ensures))
-        ∙ ap (λ (s : Stage). lineAt p ∷ restOf s q) (sym (w .self-is))
+      | in-None w ↦
+          goes-on (c .args .left) p q g (c .if-left-eq0 .left) (subst (λ (o : Option Reason). Asked Up next turned 1 p q (g, o)) (w .in-None .is) (c .forward-why .ensures))
+          ∙ ap (λ (s : Stage). lineAt p ∷ restOf s q) (sym (w .self-is))
+      | in-Some w ↦
+          ends-here (c .args .left) p q g (w .in-Some .reason) (c .if-left-eq0 .left) (subst (λ (o : Option Reason). Asked Up next turned 1 p q (g, o)) (w .in-Some .is) (c .forward-why .ensures))
+          ∙ ap (λ (s : Stage). lineAt p ∷ restOf s q) (sym (w .self-is))
     ]
