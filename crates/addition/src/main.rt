@@ -1,4 +1,6 @@
 // Walks the addition machine from 3/2 there and back, and prints each action.
+#![tactic(auto)]
+
 use machine::{Addition, Direction, Grant, Stride, Walk, out_and_back};
 use runs::{Answer, Call, perform};
 use std::io;

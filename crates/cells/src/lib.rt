@@ -1,4 +1,6 @@
 // Networks as memory: cells that a host lends, their kinds, ports and links.
+#![tactic(auto)]
+
 pub mod kinds;
 pub mod links;
 

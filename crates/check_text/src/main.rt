@@ -1,4 +1,6 @@
 // Checks a text on standard input, and prints its counts, or why it is refused.
+#![tactic(auto)]
+
 ghost use Rattle.std.specs.Prelude.{◌≡◌, IfOk, string_bytes};
 ghost use Rattle.check_text.specs.Lines.{Examined, counts_text, refusal_text, Answer};
 

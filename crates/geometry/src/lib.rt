@@ -1,5 +1,7 @@
 // The network of a term, and the theorems about it: it is sound, and its ports are typed.
 // Nothing here runs: each function stands for the theorem that its contract states.
+#![tactic(auto)]
+
 ghost use Rattle.geometry.specs.Theorems.{NamesAreFree, SameNames, NoneTwice};
 ghost use Rattle.geometry.specs.Theorems.{NodesCounted, SuccessorsCounted, NumbersListed, NumbersKept, LinksAreWires, WiresAreLocal, MemoryHolds, ReadBack};
 ghost use Rattle.geometry.specs.Theorems.{NetworksAreSound, PortsAreTyped, WeightIsKept, PlainKinds};

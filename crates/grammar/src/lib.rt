@@ -1,4 +1,6 @@
 // The theorems above reading and checking: what is accepted is what the grammar spells and the linear typing rules derive.
+#![tactic(auto)]
+
 ghost use Rattle.grammar.specs.Reading.{RolesFit, ReadSpelled, SpelledRead, Unambiguous, RefusedRightly};
 ghost use Rattle.grammar.specs.Naming.{NamesRight, NamesLeast};
 ghost use Rattle.grammar.specs.Dividing.{DividedExactly};

@@ -1,4 +1,6 @@
 // Programs without iterator bring the token home.
+#![tactic(auto)]
+
 ghost use Rattle.homecoming.specs.Home.{ComesHome};
 ghost use Rattle.homecoming.specs.Programs.{ProgramsComeHome};
 ghost use Rattle.homecoming.specs.Further.{FurtherNodesDoNoHarm, FurtherNodesBringNoOther};

@@ -1,4 +1,6 @@
 // The text of a program, as the programs read it.
+#![tactic(auto)]
+
 use std::alloc::Global;
 use std::io::Read;
 

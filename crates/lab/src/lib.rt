@@ -1,4 +1,6 @@
 // The calls that a host makes: text to network to walk, lists of calls performed on a walk, and listings.
+#![tactic(auto)]
+
 mod ends;
 mod listing;
 mod memory;

@@ -1,4 +1,6 @@
 // A machine of its own, outside the crate `machine`: a ladder of a thousand rungs.
+#![tactic(auto)]
+
 ghost use Rattle.std.specs.Prelude.{◌≡◌, ℕ, ◌≤◌, true, IfOk};
 ghost use Rattle.ladder.specs.Rungs.{Rung, rung, climb, other_way, Tried};
 ghost use Rattle.ladder.specs.Lawful.{ladder_laws};

@@ -1,4 +1,6 @@
 // From text to checked program: what a text must be to be accepted, and what it is refused with else.
+#![tactic(auto)]
+
 mod check;
 mod checker;
 mod conclude;

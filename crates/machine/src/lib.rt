@@ -1,4 +1,6 @@
 // Reversible machines, and walks over any of them.
+#![tactic(auto)]
+
 mod addition;
 mod headings;
 mod machines;

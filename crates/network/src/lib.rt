@@ -1,4 +1,6 @@
 // From a text to its network, in cells that the host lends.
+#![tactic(auto)]
+
 pub mod build;
 mod lay;
 mod part;

@@ -1,4 +1,6 @@
 // Tells how many programs end: texts on standard input, one to a line, and for each the last line of its listing, or its refusal.
+#![tactic(auto)]
+
 ghost use Rattle.std.specs.Prelude.{◌≡◌, ℕ, ◌<◌, ◌≤◌, length, IfOk, ◌≢◌, slice_index};
 
 use anyhow::anyhow;

@@ -1,4 +1,6 @@
 // Whole runs of walks: what may be read of a machine, and lists of calls performed on a walk.
+#![tactic(auto)]
+
 mod calls;
 mod performing;
 mod readings;

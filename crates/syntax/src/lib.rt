@@ -1,4 +1,6 @@
 // From text to terms: signs are read from the left, and names are resolved to their binders.
+#![tactic(auto)]
+
 ghost use Rattle.std.specs.Prelude.{◌≡◌, []};
 ghost use Rattle.syntax.specs.Answer.{Answers, ReadAs};
 ghost use Rattle.syntax.specs.Held.{names_of};

@@ -1,4 +1,6 @@
 // Texts at and beside each limit of the reader.
+#![tactic(auto)]
+
 #[cfg(test)]
 mod tests {
     use std::alloc::{AllocError, Global};

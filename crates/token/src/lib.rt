@@ -1,4 +1,6 @@
 // What a token is: its state, the table of its rows, its next state, its laws and its line.
+#![tactic(auto)]
+
 mod memory;
 mod table;
 mod texts;

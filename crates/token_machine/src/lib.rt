@@ -1,4 +1,6 @@
 // The token as a machine: over shared cells and lent memory.
+#![tactic(auto)]
+
 mod lines;
 mod numbers;
 mod passages;

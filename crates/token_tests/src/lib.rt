@@ -1,4 +1,6 @@
 // Walks of tokens over cells written by hand.
+#![tactic(auto)]
+
 #[cfg(test)]
 mod tests {
     use cells::{ABSENT, Cell, Kind};

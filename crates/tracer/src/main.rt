@@ -1,4 +1,6 @@
 // Lists the walk of a program's token: the text on standard input, a line for each state, and then how the walk ended.
+#![tactic(auto)]
+
 ghost use Rattle.std.specs.Prelude.{◌<◌, T, length, IfOk};
 ghost use Rattle.machine.specs.Walks.{place};
 ghost use Rattle.token_machine.specs.Tokens.{state_of};

@@ -1,4 +1,6 @@
 // Walks the token of a program: the text on standard input, the calls as arguments, each with its answer on a line.
+#![tactic(auto)]
+
 mod plan;
 
 use input::read_text;

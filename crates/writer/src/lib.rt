@@ -1,4 +1,6 @@
 // A small writer of text: byte after byte, from the front of a lent buffer.
+#![tactic(auto)]
+
 ghost use Rattle.std.specs.Prelude.{ℕ, List, [], ◌∷◌, reverse, decimal};
 ghost use Rattle.std.specs.Fmt.{signed_decimal};
 ghost use Rattle.writer.specs.Written.{Wrote, listed};
