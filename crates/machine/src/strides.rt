@@ -68,7 +68,7 @@ impl<M: Machine> Machine for Stride<M> {
 
 // Takes a step, or takes back the last `done` steps and passes the reason on.
 fn step_or_retrace<M: Machine>(m: &mut M, done: u32) -> Result<(), Reason>
-    ensures { MatchResult result (λ _. next (state m.old) ≡ to (state m.new)) (λ w. (next (state m.old) ≡ ends w) × ((x : State) → go next done x ≡ to (state m.old) → state m.new ≡ x)) }
+    ensures { MatchResult result (λ _. M.next (M.state m.old) ≡ to (M.state m.new)) (λ w. (M.next (M.state m.old) ≡ ends w) × ((x : M.State) → go M.next done x ≡ to (M.state m.old) → M.state m.new ≡ x)) }
 {
     let outcome = m.step();
     if outcome.is_err() {
@@ -79,7 +79,7 @@ fn step_or_retrace<M: Machine>(m: &mut M, done: u32) -> Result<(), Reason>
 
 // Takes back the last n steps: turned, the machine goes the same way back.
 fn retrace<M: Machine>(m: &mut M, n: u32)
-    ensures { (x : State) → go next n x ≡ to (state m.old) → state m.new ≡ x }
+    ensures { (x : M.State) → go M.next n x ≡ to (M.state m.old) → M.state m.new ≡ x }
 {
     m.turn();
     for i in 0..n {

@@ -16,8 +16,8 @@ pub fn perform<M: Readable>(
     calls: &[Call<M::Query>],
     heap: Global,
 ) -> Result<Vec<Answer<M::Reply>>, AllocError>
-    ensures performed { MatchResult result (λ v. Performed M.Machine.next M.Machine.turned (Reads M.Machine.state reading) (place (M.Machine.state walk.old.machine) walk.old.sum.value) calls.now (map (meant told) v.items) (place (M.Machine.state walk.new.machine) walk.new.sum.value)) (λ _. walk.new ≡ walk.old) }
-    ensures law { RunLaw M.Machine.next M.Machine.turned (Reads M.Machine.state reading) }
+    ensures performed { MatchResult result (λ v. Performed M.Machine.next M.Machine.turned (Reads M.Machine.state M.reading) (place (M.Machine.state walk.old.machine) walk.old.sum.value) calls.now (map (meant M.told) v.items) (place (M.Machine.state walk.new.machine) walk.new.sum.value)) (λ _. walk.new ≡ walk.old) }
+    ensures law { RunLaw M.Machine.next M.Machine.turned (Reads M.Machine.state M.reading) }
 {
     let rooms = rooms_for::<M>(calls, heap)?;
     let mut answers = Vec::with_capacity(heap, calls.len())?;
@@ -32,9 +32,7 @@ pub fn perform<M: Readable>(
 }
 
 // Keeps the probes that are open at the end.
-fn keep_all<M: Machine>(walk: &Walk<M>, mut probes: Vec<Probe>)
-    ensures { walk.now ≡ walk.now }
-{
+fn keep_all<M: Machine>(walk: &Walk<M>, mut probes: Vec<Probe>) {
     while let Some(probe) = probes.pop() {
         walk.keep(probe);
     }
@@ -48,9 +46,9 @@ fn perform_one<M: Readable>(
     probes: &mut Vec<Probe>,
     room: Option<M::Room>,
 ) -> Answer<M::Reply>
-    requires ready { Ready fits call.now room }
+    requires ready { Ready M.fits call.now room }
     requires space { vec_len probes.old < vec_capacity probes.old }
-    ensures did { Did M.Machine.next M.Machine.turned (Reads M.Machine.state reading) (place (M.Machine.state walk.old.machine) walk.old.sum.value) (latest_first (λ (p : Taken). p.sum.value) probes.old.items) call.now (meant told result) (place (M.Machine.state walk.new.machine) walk.new.sum.value) (latest_first (λ (p : Taken). p.sum.value) probes.new.items) }
+    ensures did { Did M.Machine.next M.Machine.turned (Reads M.Machine.state M.reading) (place (M.Machine.state walk.old.machine) walk.old.sum.value) (latest_first (λ (p : Taken). p.sum.value) probes.old.items) call.now (meant M.told result) (place (M.Machine.state walk.new.machine) walk.new.sum.value) (latest_first (λ (p : Taken). p.sum.value) probes.new.items) }
     ensures space { (vec_len probes.new ≤ vec_len probes.old + 1) × (vec_capacity probes.new ≡ vec_capacity probes.old) }
 {
     match call {
@@ -84,7 +82,7 @@ fn rooms_for<M: Readable>(
     calls: &[Call<M::Query>],
     heap: Global,
 ) -> Result<Vec<Option<M::Room>>, AllocError>
-    ensures { IfOk result (λ v. (vec_len v ≡ length calls.now) × AllReady fits calls.now v.items) }
+    ensures { IfOk result (λ v. (vec_len v ≡ length calls.now) × AllReady M.fits calls.now v.items) }
 {
     let mut rooms = Vec::new(heap);
     for call in calls {
@@ -94,7 +92,7 @@ fn rooms_for<M: Readable>(
 }
 
 fn room_for<M: Readable>(call: &Call<M::Query>, heap: Global) -> Result<Option<M::Room>, AllocError>
-    ensures { IfOk result (Ready fits call.now) }
+    ensures { IfOk result (Ready M.fits call.now) }
 {
     match call {
         Call::Read(query) => Ok(Some(M::room(query, heap)?)),

@@ -1,5 +1,5 @@
 -- What the readers of terms do, in the words of their contracts.
-use Rattle.std.proofs.Common.{◌≡◌, ℕ, suc, ◌+◌, ◌*◌, ◌≤◌, false, List, [], ◌∷◌, length, take, Ok, Err, vec_items, Result, sym, refl, ap, ◌∙◌, subst, arith, length-append, Bor, MutBor}
+use Rattle.std.proofs.Common.{◌≡◌, ℕ, suc, ◌+◌, ◌*◌, ◌≤◌, false, List, [], ◌∷◌, length, take, Ok, Err, vec_items, Result, sym, refl, ap, ◌∙◌, subst, arith, length-append, Bor}
 use lib.ListN.{length-map}
 use Rattle.syntax.specs.declared.names.First.{First}
 use Rattle.syntax.specs.declared.names.First.TheVariants as first
@@ -66,17 +66,17 @@ abbrev Part : Start → List ℕ → Program → Scope → Program → Scope →
 Part s text P S P₁ S₁ r = TermRead s.end (s.depth + 1) P S P₁ S₁ (part_of s (begun (s.depth + 1) P) (signed P) (lex s.end text)) (Ok r)
 
 -- then there is room for the next one
-pub next-room : {end d : ℕ} {P P₁ : Program} {S S₁ : Scope} {o : Out (Tree Name × ℕ × ℕ)} {r : ℕ × MutBor (List ℕ)} → TermRead end d P S P₁ S₁ o (Ok r) → length (names_of S).force ≤ 2 * d → HasRoom d P₁ S₁
+pub next-room : {end d : ℕ} {P P₁ : Program} {S S₁ : Scope} {o : Out (Tree Name × ℕ × ℕ)} {r : ℕ × Bor (List ℕ)} → TermRead end d P S P₁ S₁ o (Ok r) → length (names_of S).force ≤ 2 * d → HasRoom d P₁ S₁
 next-room {end} {d} {P} {P₁} {S} {S₁} {o} {r} x h = room_next d (subs P) (cells P) (names_of S) (subs P₁) (cells P₁) (names_of S₁) x.gives.0 r.0 x.gives.2 x.kept h
 
 -- the whole is put after its parts
-whole : (s : Start) {P P₁ P₂ : Program} {S S₁ : Scope} {names : Names} {shape : Shape} {a : Tree Name × ℕ × ℕ} {o : Out (Tree Name × ℕ × ℕ)} {i : ℕ} {rest : MutBor (List ℕ)} → o ≡ got a (lex s.end rest.now) → TermHeld s.depth (subs P) (cells P) (names_of S) (push s.place shape (subs P₁)) (cells P₁) names a (length (subs P₁)) → IsPut s.place shape P₁ P₂ i → names_of S₁ ≡ names → in_force_in S₁ ≡ in_force_in S → TermRead s.end s.depth P S P₂ S₁ o (Ok (i, rest))
+whole : (s : Start) {P P₁ P₂ : Program} {S S₁ : Scope} {names : Names} {shape : Shape} {a : Tree Name × ℕ × ℕ} {o : Out (Tree Name × ℕ × ℕ)} {i : ℕ} {rest : Bor (List ℕ)} → o ≡ got a (lex s.end rest.now) → TermHeld s.depth (subs P) (cells P) (names_of S) (push s.place shape (subs P₁)) (cells P₁) names a (length (subs P₁)) → IsPut s.place shape P₁ P₂ i → names_of S₁ ≡ names → in_force_in S₁ ≡ in_force_in S → TermRead s.end s.depth P S P₂ S₁ o (Ok (i, rest))
 whole s {P} {P₁} {P₂} {S} {S₁} {names} {shape} {a} {o} {i} e h q n k =
     record { gives = (a, e, held_as s.depth (subs P) (cells P) (names_of S) (push s.place shape (subs P₁)) (cells P₁) names (subs P₂) (cells P₂) (names_of S₁) a (length (subs P₁)) i h q.subterms q.types n q.at); kept = k }
 
 -- terms without parts
-module _ (s : Start) (text : MutBor (List ℕ)) {P P₁ : Program} {S : Scope} (c : IsCounted s P S) where
-  pub name_follows : {S₁ : Scope} {b i : ℕ} (w : MutBor (List ℕ)) → names_of S₁ ≡ occur s.place w.now (names_of S) → b ≡ binder_of w.now (in_force_in S) s.place → IsPut s.place (Variable b) P P₁ i → Follows (first.Name w) s text.now P S P₁ S₁ (Ok (i, text))
+module _ (s : Start) (text : Bor (List ℕ)) {P P₁ : Program} {S : Scope} (c : IsCounted s P S) where
+  pub name_follows : {S₁ : Scope} {b i : ℕ} (w : Bor (List ℕ)) → names_of S₁ ≡ occur s.place w.now (names_of S) → b ≡ binder_of w.now (in_force_in S) s.place → IsPut s.place (Variable b) P P₁ i → Follows (first.Name w) s text.now P S P₁ S₁ (Ok (i, text))
   name_follows {S₁} {b} w n is q =
       let p = s.place in
       let names = names_of S in
@@ -95,18 +95,18 @@ module _ (s : Start) (text : List ℕ) {P P₁ : Program} {S S₁ : Scope} {r₁
       whole s (succ_read s.end (part_of s) s.place (lex s.end text) up refl x.gives.1)
       (held_succ s.depth (subs P) (cells P) (names_of S) s.place (subs P₁) (cells P₁) (names_of S₁) x.gives.0 r₁.0 x.gives.2) q refl x.kept
 
-  module _ {P₂ P₃ : Program} {S₂ : Scope} {r₂ : ℕ × MutBor (List ℕ)} {i : ℕ} where
-    pub app_follows : (r₃ : MutBor (List ℕ)) → Part s r₁.1.now P₁ S₁ P₂ S₂ r₂ → expect s.end (is_mark 41) (lex s.end r₂.1.now) ≡ got tt (lex s.end r₃.now) → IsPut s.place (Application r₁.0 r₂.0) P₂ P₃ i → Follows first.Application s text P S P₃ S₂ (Ok (i, r₃))
+  module _ {P₂ P₃ : Program} {S₂ : Scope} {r₂ : ℕ × Bor (List ℕ)} {i : ℕ} where
+    pub app_follows : (r₃ : Bor (List ℕ)) → Part s r₁.1.now P₁ S₁ P₂ S₂ r₂ → expect s.end (is_mark 41) (lex s.end r₂.1.now) ≡ got tt (lex s.end r₃.now) → IsPut s.place (Application r₁.0 r₂.0) P₂ P₃ i → Follows first.Application s text P S P₃ S₂ (Ok (i, r₃))
     app_follows r₃ y z q =
         whole s (app_read s.end (part_of s) s.place (lex s.end text) up refl x.gives.1 x.gives.2.counted x.gives.2.signs y.gives.1 z)
         (held_app s.depth (subs P) (cells P) (names_of S) s.place (subs P₁) (cells P₁) (names_of S₁) x.gives.0 r₁.0 x.gives.2 (subs P₂) (cells P₂) (names_of S₂) y.gives.0 r₂.0 y.gives.2 x.kept) q refl (y.kept ∙ x.kept)
 
-    pub pair_follows : (t r₃ : MutBor (List ℕ)) → expect s.end (is_mark 44) (lex s.end r₁.1.now) ≡ got tt (lex s.end t.now) → Part s t.now P₁ S₁ P₂ S₂ r₂ → expect s.end (is_mark 62) (lex s.end r₂.1.now) ≡ got tt (lex s.end r₃.now) → IsPut s.place (Pair r₁.0 r₂.0) P₂ P₃ i → Follows first.Pair s text P S P₃ S₂ (Ok (i, r₃))
+    pub pair_follows : (t r₃ : Bor (List ℕ)) → expect s.end (is_mark 44) (lex s.end r₁.1.now) ≡ got tt (lex s.end t.now) → Part s t.now P₁ S₁ P₂ S₂ r₂ → expect s.end (is_mark 62) (lex s.end r₂.1.now) ≡ got tt (lex s.end r₃.now) → IsPut s.place (Pair r₁.0 r₂.0) P₂ P₃ i → Follows first.Pair s text P S P₃ S₂ (Ok (i, r₃))
     pair_follows t r₃ w y z q =
         whole s (pair_read s.end (part_of s) s.place (lex s.end text) up refl x.gives.1 x.gives.2.counted x.gives.2.signs (lex s.end t.now) w y.gives.1 z)
         (held_pair s.depth (subs P) (cells P) (names_of S) s.place (subs P₁) (cells P₁) (names_of S₁) x.gives.0 r₁.0 x.gives.2 (subs P₂) (cells P₂) (names_of S₂) y.gives.0 r₂.0 y.gives.2 x.kept) q refl (y.kept ∙ x.kept)
 
-    pub iter_follows : {P₄ : Program} {S₃ : Scope} {r₃ : ℕ × MutBor (List ℕ)} → Part s r₁.1.now P₁ S₁ P₂ S₂ r₂ → Part s r₂.1.now P₂ S₂ P₃ S₃ r₃ → IsPut s.place (Iterator r₁.0 r₂.0 r₃.0) P₃ P₄ i → Follows first.Iterator s text P S P₄ S₃ (Ok (i, r₃.1))
+    pub iter_follows : {P₄ : Program} {S₃ : Scope} {r₃ : ℕ × Bor (List ℕ)} → Part s r₁.1.now P₁ S₁ P₂ S₂ r₂ → Part s r₂.1.now P₂ S₂ P₃ S₃ r₃ → IsPut s.place (Iterator r₁.0 r₂.0 r₃.0) P₃ P₄ i → Follows first.Iterator s text P S P₄ S₃ (Ok (i, r₃.1))
     iter_follows {P₄} {S₃} {r₃} y z q =
         whole s (iter_read s.end (part_of s) s.place (lex s.end text) up refl x.gives.1 x.gives.2.counted x.gives.2.signs y.gives.1 y.gives.2.counted y.gives.2.signs z.gives.1)
         (held_iter s.depth (subs P) (cells P) (names_of S) s.place (subs P₁) (cells P₁) (names_of S₁) x.gives.0 r₁.0 x.gives.2 (subs P₂) (cells P₂) (names_of S₂) y.gives.0 r₂.0 y.gives.2 x.kept (subs P₃) (cells P₃) (names_of S₃) z.gives.0 r₃.0 z.gives.2 y.kept) q refl (z.kept ∙ y.kept ∙ x.kept)
@@ -115,14 +115,14 @@ module _ (s : Start) (text : List ℕ) {P P₁ : Program} {S S₁ : Scope} {r₁
 pub function-room : (s : Start) (P : Program) (S S₂ : Scope) (f : Binder) (new : List TypeCell) → IsCounted s P S → names_of S₂ ≡ enter f (declare f (names_of S)) → length new ≤ 2048 → Room (s.depth + 1) (subs P) new (names_of S₂)
 function-room s P S S₂ f new c inside h = subst (λ (n : Names). Room (s.depth + 1) (subs P) new n) (sym inside) (room_body s.depth (subs P) (cells P) (names_of S) c.room c.few f new h)
 
-module _ (s : Start) (text : List ℕ) (P P₁ : Program) (S S₂ : Scope) (h : ℕ) (head : Head) (r : MutBor (List ℕ)) (inside : names_of S₂ ≡ enter (binder_at head.binder) (declare (binder_at head.binder) (names_of S))) (high : h ≡ length (names_of S).force) where
+module _ (s : Start) (text : List ℕ) (P P₁ : Program) (S S₂ : Scope) (h : ℕ) (head : Head) (r : Bor (List ℕ)) (inside : names_of S₂ ≡ enter (binder_at head.binder) (declare (binder_at head.binder) (names_of S))) (high : h ≡ length (names_of S).force) where
   abbrev f : Binder
   f = binder_at head.binder
 
   abbrev IsHead : Type 0
   IsHead = Gives s.end (HeadHeld (cells P) (cells P₁)) (function_head s.end (signed P) (lex s.end text)) (Ok (head, r))
 
-  kept : {P₂ : Program} {S₃ : Scope} {r₂ : Result (ℕ × MutBor (List ℕ)) Refusal} → BodyRead s h r.now P₁ S₂ P₂ S₃ r₂ → in_force_in S₃ ≡ in_force_in S
+  kept : {P₂ : Program} {S₃ : Scope} {r₂ : Result (ℕ × Bor (List ℕ)) Refusal} → BodyRead s h r.now P₁ S₂ P₂ S₃ r₂ → in_force_in S₃ ≡ in_force_in S
   kept y = y.kept ∙ left_over h (names_of S).force (in_force_in S₂) (f ∷ []) high (ap (λ (n : Names). binders_of n.force) inside ∙ entered f (declare f (names_of S)))
 
   deeper : subs P₁ ≡ subs P → suc (begun s.depth P) ≡ begun (s.depth + 1) P₁
@@ -131,7 +131,7 @@ module _ (s : Start) (text : List ℕ) (P P₁ : Program) (S S₂ : Scope) (h : 
   pub function_stopped : {P₂ : Program} {S₃ : Scope} {e : Refusal} → BodyRead s h r.now P₁ S₂ P₂ S₃ (Err e) → subs P₁ ≡ subs P → IsHead → Follows first.Function s text P S P₂ S₃ (Err e)
   function_stopped y same w = record { gives = function_stops s.end (part_of s) s.place (signed P) (lex s.end text) (lex s.end r.now) w.1 (deeper same) w.2.counted y.gives; kept = kept y }
 
-  pub function_follows : {P₂ P₃ : Program} {S₃ : Scope} {r₂ : ℕ × MutBor (List ℕ)} {i : ℕ} → BodyRead s h r.now P₁ S₂ P₂ S₃ (Ok r₂) → subs P₁ ≡ subs P → IsHead → IsPut s.place (Function head.binder.place head.annotation r₂.0) P₂ P₃ i → Follows first.Function s text P S P₃ S₃ (Ok (i, r₂.1))
+  pub function_follows : {P₂ P₃ : Program} {S₃ : Scope} {r₂ : ℕ × Bor (List ℕ)} {i : ℕ} → BodyRead s h r.now P₁ S₂ P₂ S₃ (Ok r₂) → subs P₁ ≡ subs P → IsHead → IsPut s.place (Function head.binder.place head.annotation r₂.0) P₂ P₃ i → Follows first.Function s text P S P₃ S₃ (Ok (i, r₂.1))
   function_follows {P₂} {P₃} {S₃} {r₂} y same w q =
       let b = y.gives.0 in
       let x = y.gives.2 in
@@ -149,14 +149,14 @@ module _ (s : Start) (P : Program) (S S₂ : Scope) (f g : Binder) (both : names
   pub pair_kept : (S₃ : Scope) → in_force_in S₃ ≡ in_force_in S₂ → in_force_in S₃ ≡ in_force_in S
   pair_kept S₃ k = k ∙ ap (λ (n : Names). binders_of n.force) both
 
-  module _ (t : List ℕ) {P₁ : Program} {S₃ : Scope} {r₁ : ℕ × MutBor (List ℕ)} (x : Part s t P S₂ P₁ S₃ r₁) (S₅ : Scope) (inside : names_of S₅ ≡ enter g (enter f (names_of S₃))) where
+  module _ (t : List ℕ) {P₁ : Program} {S₃ : Scope} {r₁ : ℕ × Bor (List ℕ)} (x : Part s t P S₂ P₁ S₃ r₁) (S₅ : Scope) (inside : names_of S₅ ≡ enter g (enter f (names_of S₃))) where
     pub let_room : IsCounted s P S → HasRoom (s.depth + 1) P₁ S₅
     let_room c =
         let h = x.gives.2 in
         subst (λ (n : Names). Room (s.depth + 1) (subs P₁) (cells P₁) n) (sym inside) (room_let s.depth (subs P₁) (cells P₁) (names_of S₃) f g (omega (arith, h.counted, h.few)) (omega (arith, h.signs, h.few_signs)) h.bound (omega (arith, force_length (names_of S) (names_of S₃) (pair_kept S₃ x.kept), c.room.force)))
 
-    module _ (text : List ℕ) (h : ℕ) (u : MutBor (List ℕ)) (high : h ≡ length (names_of S₃).force) (head : let_head s.end (lex s.end text) ≡ got (f, g) (lex s.end t)) (z : expect s.end is_word_in (lex s.end r₁.1.now) ≡ got tt (lex s.end u.now)) where
-      kept_let : {P₂ : Program} {S₆ : Scope} {r₂ : Result (ℕ × MutBor (List ℕ)) Refusal} → BodyRead s h u.now P₁ S₅ P₂ S₆ r₂ → in_force_in S₆ ≡ in_force_in S
+    module _ (text : List ℕ) (h : ℕ) (u : Bor (List ℕ)) (high : h ≡ length (names_of S₃).force) (head : let_head s.end (lex s.end text) ≡ got (f, g) (lex s.end t)) (z : expect s.end is_word_in (lex s.end r₁.1.now) ≡ got tt (lex s.end u.now)) where
+      kept_let : {P₂ : Program} {S₆ : Scope} {r₂ : Result (ℕ × Bor (List ℕ)) Refusal} → BodyRead s h u.now P₁ S₅ P₂ S₆ r₂ → in_force_in S₆ ≡ in_force_in S
       kept_let y = y.kept ∙ left_over h (names_of S₃).force (in_force_in S₅) (f ∷ g ∷ []) high (ap (λ (n : Names). binders_of n.force) inside ∙ entered_two f g (names_of S₃)) ∙ pair_kept S₃ x.kept
 
       deeper_let : suc (begun s.depth P) ≡ begun (s.depth + 1) P
@@ -165,7 +165,7 @@ module _ (s : Start) (P : Program) (S S₂ : Scope) (f g : Binder) (both : names
       pub let_stopped : {P₂ : Program} {S₆ : Scope} {e : Refusal} → BodyRead s h u.now P₁ S₅ P₂ S₆ (Err e) → Follows first.Let s text P S P₂ S₆ (Err e)
       let_stopped y = record { gives = let_stops s.end (part_of s) s.place (lex s.end t) deeper_let refl x.gives.1 x.gives.2.counted x.gives.2.signs (lex s.end text) (lex s.end u.now) f g head z y.gives; kept = kept_let y }
 
-      pub let_follows : {P₂ P₃ : Program} {S₆ : Scope} {r₂ : ℕ × MutBor (List ℕ)} {i : ℕ} → BodyRead s h u.now P₁ S₅ P₂ S₆ (Ok r₂) → IsPut s.place (Let f.place g.place r₁.0 r₂.0) P₂ P₃ i → Follows first.Let s text P S P₃ S₆ (Ok (i, r₂.1))
+      pub let_follows : {P₂ P₃ : Program} {S₆ : Scope} {r₂ : ℕ × Bor (List ℕ)} {i : ℕ} → BodyRead s h u.now P₁ S₅ P₂ S₆ (Ok r₂) → IsPut s.place (Let f.place g.place r₁.0 r₂.0) P₂ P₃ i → Follows first.Let s text P S P₃ S₆ (Ok (i, r₂.1))
       let_follows {P₂} {P₃} {S₆} {r₂} y q =
           let b = y.gives.0 in
           let v = y.gives.2 in

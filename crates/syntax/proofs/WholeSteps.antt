@@ -1,5 +1,5 @@
 -- What reading a whole text gives, step by step.
-use Rattle.std.proofs.Common.{◌≡◌, ℕ, ◌+◌, ◌-◌, ◌<◌, ◌≤◌, List, [], ◌∷◌, length, Some, None, Ok, Err, vec_items, Option, sym, refl, ap, ◌∙◌, arith, MutBor}
+use Rattle.std.proofs.Common.{◌≡◌, ℕ, ◌+◌, ◌-◌, ◌<◌, ◌≤◌, List, [], ◌∷◌, length, Some, None, Ok, Err, vec_items, Option, sym, refl, ap, ◌∙◌, arith, Bor}
 use Rattle.std.proofs.lemmas.Bool.{le-leb, lt-leb}
 use Rattle.syntax.specs.declared.program.Subterm.{Subterm}
 use Rattle.syntax.specs.declared.program.TypeCell.{TypeCell}
@@ -61,7 +61,7 @@ module _ (text : List ℕ) (short : length text ≤ 16384) where
           record { tree = t; is = within ∙ ap named all ∙ ap (or_fault a.0) (sym (first-fault a.0) ∙ n); subterms = h.term; types = h.types; at = h.at; few = omega (arith, h.counted, h.few); few_types = omega (arith, h.signs, h.few_signs); denotes = span_denotes t subs cells 0 root spans; spans = spans }
 
 -- a whole text was read into empty memory, and no sign is left: then names are asked
-module _ (text : List ℕ) (short : length text ≤ 16384) (P P₁ : Program) (S S₁ : Scope) (r : ℕ × MutBor (List ℕ)) (subs : vec_items P.subterms ≡ []) (cells : vec_items P.types ≡ []) (none : names_of S ≡ no_names) (x : TermRead (length text) 0 P S P₁ S₁ (term (length text) (128 - 0) (begun 0 P) (signed P) (lex (length text) text)) (Ok r)) (over : [] ≡ skipped r.1.now) where
+module _ (text : List ℕ) (short : length text ≤ 16384) (P P₁ : Program) (S S₁ : Scope) (r : ℕ × Bor (List ℕ)) (subs : vec_items P.subterms ≡ []) (cells : vec_items P.types ≡ []) (none : names_of S ≡ no_names) (x : TermRead (length text) 0 P S P₁ S₁ (term (length text) (128 - 0) (begun 0 P) (signed P) (lex (length text) text)) (Ok r)) (over : [] ≡ skipped r.1.now) where
   read : term (length text) 128 0 0 (lex (length text) text) ≡ got x.gives.0 (lex (length text) r.1.now)
   read = start (length text) (lex (length text) text) (vec_items P.subterms) (vec_items P.types) (got x.gives.0 (lex (length text) r.1.now)) subs cells x.gives.1
 

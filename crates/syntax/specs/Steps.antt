@@ -1,6 +1,6 @@
 -- What the reading functions promise: each answers as the reading of signs does. Assumes nothing.
 use Rattle.std.specs.Prelude.{◌≡◌, ℕ, suc, ◌+◌, ◌-◌, ◌*◌, ◌<◌, ◌≤◌, Bool, true, false, cond, ◌&&◌, List, [], ◌∷◌, length, take, Ok, Err, vec_items, Result, nat_lt}
-use Rattle.std.specs.Borrow.{Bor, MutBor}
+use Rattle.std.specs.Borrow.{Bor}
 use Rattle.calculus.specs.Types.{Ty}
 use Rattle.syntax.specs.declared.refusal.Refusal.{Refusal}
 use Rattle.syntax.specs.declared.refusal.Fault.{Fault}
@@ -118,7 +118,7 @@ pub record Room (depth : ℕ) (subs : List Subterm) (cells : List TypeCell) (nam
   pub force : length names.force ≤ 2 * depth
 
 -- the same of a program and of names as memory holds them
-abbrev pub TermGives : ℕ → ℕ → Program → Scope → Program → Scope → Out (Tree Name × ℕ × ℕ) → Result (ℕ × MutBor (List ℕ)) Refusal → Type 0
+abbrev pub TermGives : ℕ → ℕ → Program → Scope → Program → Scope → Out (Tree Name × ℕ × ℕ) → Result (ℕ × Bor (List ℕ)) Refusal → Type 0
 TermGives end depth program scope program' scope' o r =
     Gives end (TermHeld depth (vec_items program.subterms) (vec_items program.types) (names_of scope) (vec_items program'.subterms) (vec_items program'.types) (names_of scope')) o r
 
@@ -173,6 +173,6 @@ pub record BodyHeld (before depth : ℕ) (program : Program) (scope : Scope) (pr
   pub left : names' ≡ leave before late
 
 -- whatever reading a body answers, its names are out of force
-pub record BodyRead (start : Start) (before : ℕ) (text : List ℕ) (program : Program) (scope : Scope) (program' : Program) (scope' : Scope) (r : Result (ℕ × MutBor (List ℕ)) Refusal) : Type 0 where
+pub record BodyRead (start : Start) (before : ℕ) (text : List ℕ) (program : Program) (scope : Scope) (program' : Program) (scope' : Scope) (r : Result (ℕ × Bor (List ℕ)) Refusal) : Type 0 where
   pub gives : Gives start.end (BodyHeld before (start.depth + 1) program scope program' (names_of scope')) (part_of start (begun (start.depth + 1) program) (signed program) (lex start.end text)) r
   pub kept : in_force_in scope' ≡ take before (in_force_in scope)

@@ -10,12 +10,12 @@ pub loop-done-init : goal.loop-done-init
 loop-done-init g c = (go_none _ _, refl)
 
 pub loop-done-preserved : goal.loop-done-preserved
-loop-done-preserved g c = (go_more _ _ _ _ _ c.loop-done.invariant.0 c.in-ok-step-or-retrace.ensures, c.loop-done.invariant.1)
+loop-done-preserved g c = (go_more _ _ _ _ _ c.loop-done.invariant.0 c.in_ok-step_or_retrace.ensures, c.loop-done.invariant.1)
 
-pub returns-in-err-step-or-retrace : goal.returns-in-err-step-or-retrace
-returns-in-err-step-or-retrace g c =
-    let p = err_from_is_err_and c.from-residual.result c.from-residual.ensures.1 in
-    let e = c.in-err-step-or-retrace.ensures in
+pub returns-in_err-step_or_retrace : goal.returns-in_err-step_or_retrace
+returns-in_err-step_or_retrace g c =
+    let p = err_from_is_err_and c.from_residual.result c.from_residual.ensures.1 in
+    let e = c.in_err-step_or_retrace.ensures in
     let k = c.args.self.now.k in
     let met = go_stops g.M.Machine.next _ _ _ _ _ c.loop-done-test.true c.loop-done.invariant.0 e.0 in
     let home = e.1 _ c.loop-done.invariant.0 in

@@ -7,4 +7,4 @@ pub loop-granted-init : goal.loop-granted-init
 loop-granted-init g c = go_none _ _
 
 pub loop-granted-preserved : goal.loop-granted-preserved
-loop-granted-preserved g c = go_more (may c.args.heading g.M.Machine.next) _ _ _ _ c.loop-granted.invariant c.in-default.ensures
+loop-granted-preserved g c = go_more (may c.args.heading g.M.Machine.next) _ _ _ _ c.loop-granted.invariant c.in_default.ensures
