@@ -18,13 +18,13 @@ returns-in-Sum g c = record { did = did_sum c.in-Sum.is (search rules); space = 
 
 pub returns-in-Probe : goal.returns-in-Probe
 returns-in-Probe g c = record {
-  did = did_probe sum_of (vec_items c.args.probes.now) (vec_items c.push-reserved.new.self) c.probe.result c.in-Probe.is c.probe.ensures c.push-reserved.ensures.items;
+  did = did_probe sum_of (vec_items c.args.probes.now) (vec_items c.push_reserved.new.self) c.probe.result c.in-Probe.is c.probe.ensures c.push_reserved.ensures.items;
   space = search rules;
 }
 
 pub returns-in-Some : goal.returns-in-Some
 returns-in-Some g c = record {
-  did = did_bring sum_of (vec_items c.args.probes.now) (vec_items c.pop.new.self) c.in-Some.probe c.in-BringBack.is c.in-Some.ensures.items c.bring-back.ensures;
+  did = did_bring sum_of (vec_items c.args.probes.now) (vec_items c.pop.new.self) c.in-Some.probe c.in-BringBack.is c.in-Some.ensures.items c.bring_back.ensures;
   space = search rules;
 }
 

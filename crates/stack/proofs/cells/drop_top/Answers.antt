@@ -7,5 +7,5 @@ pub returns : goal.returns
 returns g c =
     record {
       within = omega arith;
-      is = ap (λ n. stacked n c.args.cells.now) c.saturating-sub.ensures ∙ stacked_less c.args.cells.now c.args.height c.requires;
+      is = ap (λ n. stacked n c.args.cells.now) c.saturating_sub.ensures ∙ stacked_less c.args.cells.now c.args.height c.requires;
     }

@@ -19,8 +19,8 @@ loop-i-preserved g c =
           c.write.ensures,
     )
 
-pub returns-then-is-empty : goal.returns-then-is-empty
-returns-then-is-empty g c =
+pub returns-then-is_empty : goal.returns-then-is_empty
+returns-then-is_empty g c =
     let none : length c.args.cells.now ≡ 0 = search rules in
     none_put g.C.Text.text c.args.cells.now none c.put.ensures
 

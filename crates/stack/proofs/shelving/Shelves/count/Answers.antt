@@ -2,8 +2,8 @@ use Rattle.std.proofs.Common.{◌≤◌, ◌∙◌, arith, rules}
 use Rattle.stack.proofs.Shelved.{shelf_short, cells_held_next, cells_held_all}
 use Rattle.stack.proofs.shelving.Shelves.count.Goals as goal
 
-pub overflow-add-n : goal.overflow-add-n
-overflow-add-n g c =
+pub overflow_add-n : goal.overflow_add-n
+overflow_add-n g c =
     let small : c.height-n.result ≤ 64 = omega (arith, c.height-n.ensures, shelf_short c.args.self.now c.loop-k.k) in
     search rules
 

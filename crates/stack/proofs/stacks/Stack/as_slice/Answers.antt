@@ -11,5 +11,5 @@ returns g c =
     let e : n ≡ n - 0 = omega arith in
     sym (held_cells s n c.height-height.ensures) ∙ ap (λ k. reverse (take k s.cells.now)) e
 
-pub slice-bounds-result-end : goal.slice-bounds-result-end
-slice-bounds-result-end g c = held-within c.args.self.now c.height-height.result c.height-height.ensures
+pub slice_bounds-result-end : goal.slice_bounds-result-end
+slice_bounds-result-end g c = held-within c.args.self.now c.height-height.result c.height-height.ensures

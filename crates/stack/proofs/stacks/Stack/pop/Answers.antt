@@ -14,7 +14,7 @@ returns g c =
     record {
       value = c.top-top.ensures;
       held =
-          ap (λ k. stacked k s.cells.now) c.saturating-sub-self.ensures
+          ap (λ k. stacked k s.cells.now) c.saturating_sub-self.ensures
           ∙ stacked_less s.cells.now n (held-within s n c.height.ensures)
           ∙ ap rest_of (held_cells s n c.height.ensures);
       room = refl;
