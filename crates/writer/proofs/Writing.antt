@@ -1,9 +1,9 @@
 -- One text written after another.
-use Rattle.std.proofs.Common.{◌≡◌, ℕ, ◌+◌, ◌-◌, ◌^◌, ◌<◌, ◌≤◌, min, Bool, true, false, List, [], ◌∷◌, ◌++◌, reverse, length, get_or, take, drop, set, ℤ, pos, nat_abs, decimal, sym, refl, ap, ◌∙◌, subst, inl, inr, append_assoc, append-nil, add-zero, add-one, arith, length-append, length-drop, length-set, take-append-drop, length-take}
+use Rattle.std.proofs.Common.{◌≡◌, ℕ, ◌+◌, ◌-◌, ◌^◌, ◌<◌, ◌≤◌, min, Bool, true, false, List, [], ◌∷◌, ◌++◌, reverse, length, get_or, take, drop, set, ℤ, pos, negsuc, nat_abs, decimal, sym, refl, ap, ◌∙◌, subst, inl, inr, append_assoc, append-nil, add-zero, add-one, arith, length-append, length-drop, length-set, take-append-drop, length-take}
 use lib.Seq.{paste, set_split, take-append_seam, take-append-le}
 use lib.Signed.{lt_z}
-use Rattle.std.specs.Fmt.{sign_text, signed_decimal}
-use Rattle.std.proofs.DigitsParse.{signed_is}
+use Rattle.std.specs.Fmt.{signed_decimal}
+use borrow.Author.Tests.{ltb-true}
 use Rattle.std.proofs.lemmas.List.Edits.{paste_all, paste-paste}
 use Rattle.std.proofs.lemmas.List.{take_all, drop_more, drop_all, reverse-append, length-reverse}
 use Rattle.std.proofs.lemmas.Bool.Decides.{leb_tells}
@@ -91,10 +91,12 @@ wrote_none s = record {
 }
 
 pub signed_neg : (z y : ℤ) (m : ℕ) → y ≡ z → lt_z y (pos 0) ≡ true → m ≡ nat_abs y → 45 ∷ decimal m ≡ signed_decimal z
-signed_neg z y m e h a = ap (λ (b : Bool). sign_text b ++ decimal m) (sym h) ∙ signed_is z y m e a
+signed_neg z (pos n) m e h a = absurd (omega (arith, ltb-true n 0 h))
+signed_neg z (negsuc n) m e h a = ap (λ k. 45 ∷ decimal k) a ∙ ap signed_decimal e
 
 pub signed_pos : (z y : ℤ) (m : ℕ) → y ≡ z → lt_z y (pos 0) ≡ false → m ≡ nat_abs y → decimal m ≡ signed_decimal z
-signed_pos z y m e h a = ap (λ (b : Bool). sign_text b ++ decimal m) (sym h) ∙ signed_is z y m e a
+signed_pos z (pos n) m e h a = ap decimal a ∙ ap signed_decimal e
+signed_pos z (negsuc n) m e h a = cc
 
 -- one cell more at the end of a list
 

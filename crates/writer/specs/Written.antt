@@ -19,7 +19,7 @@ pub record Puts (old : List ℕ) (at : ℕ) (bs : List ℕ) (new : List ℕ) (pa
 -- the writer t is s after bs was put, into the same buffer
 pub record Wrote (s : Writer) (bs : List ℕ) (t : Writer) : Type 0 where
   pub wrote : Puts s.buf.now s.at bs t.buf.now t.at
-  pub same : t.buf.name ≡ s.buf.name
+  pub same : t.buf.ghost_name ≡ s.buf.ghost_name
 
 -- the texts of some cells, with commas between them
 abbrev pub joined : {X : Type 0} → (X → List ℕ) → List X → List ℕ

@@ -59,7 +59,7 @@ impl Writer<'_> {
 
     // The cells of a stack, whose top is the last, from the top down, with commas between them; `-` if it is empty.
     pub fn stack<C: Text>(&mut self, cells: &[C])
-        ensures { Wrote self.old (listed text (reverse cells.now)) self.new }
+        ensures { Wrote self.old (listed C.text (reverse cells.now)) self.new }
     {
         if cells.is_empty() {
             self.put(b'-');

@@ -15,12 +15,12 @@ returns c =
           let e = w.self-is in
           record {
             wrote = subst P (sym e) (puts_in s.buf.now s.at c.args.b past w.if-self.true (c.saturating_add-self.ensures ∙ ap (λ (x : Writer). min (x.at + 1) (2 ^ 64 - 1)) e));
-            same = ap (λ (x : Writer). x.buf.name) e;
+            same = ap (λ (x : Writer). x.buf.ghost_name) e;
           }
       | else-self w ↦
           let e = w.self-is in
           record {
             wrote = subst P (sym e) (puts_out s.buf.now s.at c.args.b past w.if-self.false (c.saturating_add-self.ensures ∙ ap (λ (x : Writer). min (x.at + 1) (2 ^ 64 - 1)) e));
-            same = ap (λ (x : Writer). x.buf.name) e;
+            same = ap (λ (x : Writer). x.buf.ghost_name) e;
           }
     ]
