@@ -14,10 +14,10 @@ returns-in-Show c =
     let n = c.in-Show.field-0 in
     let s = state_of c.args.self.now in
     let zeros : vec_items v ≡ replicate n 0 = subst (λ q. Ready q v) c.in-Show.is c.requires in
-    let long : v.len ≡ length new = v.ok.0 ∙ ap length (sym c.as-mut-slice.ensures.value) ∙ sym c.show-shown.auto.buf in
+    let long : v.len ≡ length new = v.ok.0 ∙ ap length (sym c.as_mut_slice.ensures.value) ∙ sym c.show-shown.auto.buf in
     let y = to_z w64 (of_z w64 z) in
     let back : y ≡ z = search rules in
-    let read = shown_is (line s y) n c.as-mut-slice.result.now new r (c.as-mut-slice.ensures.value ∙ zeros) c.show-shown.ensures in
+    let read = shown_is (line s y) n c.as_mut_slice.result.now new r (c.as_mut_slice.ensures.value ∙ zeros) c.show-shown.ensures in
     λ m e.
     ap (shown r) (whole v.len new v.items long)
     ∙ read

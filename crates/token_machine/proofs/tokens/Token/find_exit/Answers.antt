@@ -4,29 +4,29 @@ use Rattle.cells.proofs.Nodes.{unlinked_first}
 use Rattle.token_machine.proofs.Stepping.{end_is, way_out, no_way_out, no_end_out}
 use Rattle.token_machine.proofs.tokens.Token.find_exit.Goals as goal
 
-pub returns-in-default : goal.returns-in-default
-returns-in-default c =
+pub returns-in_default : goal.returns-in_default
+returns-in_default c =
     let ns = nodes_of c.args.self.now.cells.now in
-    (refl, sym (unlinked_first ns _ _ (c.in-default.ensures ∙ ap (end ns) c.port-at-exit.ensures)))
+    (refl, sym (unlinked_first ns _ _ (c.in_default.ensures ∙ ap (end ns) c.port_at-exit.ensures)))
 
-pub returns-in-default-link-of : goal.returns-in-default-link-of
-returns-in-default-link-of c =
+pub returns-in_default-link_of : goal.returns-in_default-link_of
+returns-in_default-link_of c =
     let ns = nodes_of c.args.self.now.cells.now in
-    (refl, no_end_out ns _ c.in-Some.link (c.in-Some.ensures ∙ ap (end ns) c.port-at-exit.ensures) c.in-default-link-of.ensures)
+    (refl, no_end_out ns _ c.in-Some.link (c.in-Some.ensures ∙ ap (end ns) c.port_at-exit.ensures) c.in_default-link_of.ensures)
 
 pub returns-then-back-exit : goal.returns-then-back-exit
 returns-then-back-exit c =
     let ns = nodes_of c.args.self.now.cells.now in
-    let first = c.in-Some.ensures ∙ ap (end ns) c.port-at-exit.ensures in (
-      c.port-at-exit.ensures,
+    let first = c.in-Some.ensures ∙ ap (end ns) c.port_at-exit.ensures in (
+      c.port_at-exit.ensures,
       end_is ns _ _ first,
-      way_out ns _ c.in-Some.link first c.in-Some-link-of.back c.in-Some-link-of.ensures (c.if-back-exit.true ∙ c.port-at-exit.ensures),
+      way_out ns _ c.in-Some.link first c.in-Some-link_of.back c.in-Some-link_of.ensures (c.if-back-exit.true ∙ c.port_at-exit.ensures),
     )
 
 pub returns-else-back-exit : goal.returns-else-back-exit
 returns-else-back-exit c =
     let ns = nodes_of c.args.self.now.cells.now in
-    let first = c.in-Some.ensures ∙ ap (end ns) c.port-at-exit.ensures in (
+    let first = c.in-Some.ensures ∙ ap (end ns) c.port_at-exit.ensures in (
       refl,
-      no_way_out ns _ c.in-Some.link first c.in-Some-link-of.back c.in-Some-link-of.ensures (λ e. c.if-back-exit.false (e ∙ sym c.port-at-exit.ensures)),
+      no_way_out ns _ c.in-Some.link first c.in-Some-link_of.back c.in-Some-link_of.ensures (λ e. c.if-back-exit.false (e ∙ sym c.port_at-exit.ensures)),
     )

@@ -8,7 +8,7 @@ use Rattle.token_machine.proofs.tokens.Token.is_bare.Goals as goal
 pub returns : goal.returns
 returns c =
     let t = c.args.self.now in
-    let a : c.is_empty_lem.result ≡ is_empty (held t.letters) = c.is_empty_lem.ensures ∙ is_empty_lem (held t.letters) in
-    let b : c.is-empty-2.result ≡ is_empty (held t.iters) = c.is-empty-2.ensures ∙ is_empty_lem (held t.iters) in
-    let d : c.is-empty-3.result ≡ all_empty (shelves t.shelves) = c.is-empty-3.ensures ∙ all_empty_lem (shelves t.shelves) in
-    and_regroup c.is_empty_lem.result c.is-empty-2.result c.is-empty-3.result ∙ (λ i. a i && (b i && d i))
+    let a : c.is_empty.result ≡ is_empty (held t.letters) = c.is_empty.ensures ∙ is_empty_lem (held t.letters) in
+    let b : c.is_empty-2.result ≡ is_empty (held t.iters) = c.is_empty-2.ensures ∙ is_empty_lem (held t.iters) in
+    let d : c.is_empty-3.result ≡ all_empty (shelves t.shelves) = c.is_empty-3.ensures ∙ all_empty_lem (shelves t.shelves) in
+    and_regroup c.is_empty.result c.is_empty-2.result c.is_empty-3.result ∙ (λ i. a i && (b i && d i))

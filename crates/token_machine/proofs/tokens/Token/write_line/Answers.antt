@@ -12,8 +12,8 @@ returns c =
     wrote_more _ _ c.bytes.ensures (wrote_more _ _ (wrote_is (ap signed_decimal back) c.signed.ensures) (
     wrote_more _ _ c.bytes-2.ensures (wrote_more _ _ c.number.ensures (
     wrote_more _ _ c.bytes-3.ensures (wrote_more _ _ c.number-2.ensures (
-    wrote_more _ _ c.bytes-4.ensures (wrote_more _ _ (wrote_is (ap (listed letter_text) (sym c.as-slice.ensures)) c.stack.ensures) (
-    wrote_more _ _ c.bytes-5.ensures (wrote_more _ _ (wrote_is (ap (listed iter_text) (sym c.as-slice-2.ensures)) c.stack-2.ensures) (
+    wrote_more _ _ c.bytes-4.ensures (wrote_more _ _ (wrote_is (ap (listed letter_text) (sym c.as_slice.ensures)) c.stack.ensures) (
+    wrote_more _ _ c.bytes-5.ensures (wrote_more _ _ (wrote_is (ap (listed iter_text) (sym c.as_slice-2.ensures)) c.stack-2.ensures) (
     wrote_more _ _ c.bytes-6.ensures (wrote_more _ _ (wrote_is (ap decimal c.count.ensures) c.number-3.ensures) (
-    wrote_more _ _ c.bytes-7.ensures (wrote_more _ _ (wrote_is (ap (listed data_text) (sym c.as-slice-3.ensures)) c.stack-3.ensures)
+    wrote_more _ _ c.bytes-7.ensures (wrote_more _ _ (wrote_is (ap (listed data_text) (sym c.as_slice-3.ensures)) c.stack-3.ensures)
     c.bytes-8.ensures)))))))))))))
