@@ -1,8 +1,6 @@
 -- What the functions on names do, step by step.
-use Rattle.std.proofs.Common.{◌≡◌, ℕ, zero, suc, ◌<◌, Bool, true, false, cond, ◌||◌, List, [], ◌∷◌, ◌++◌, map, length, get_or, take, drop, Some, None, Decides, Option, sym, refl, ap, arith}
+use Rattle.std.proofs.Common.{◌≡◌, ℕ, zero, suc, ◌<◌, Bool, true, false, cond, ◌||◌, List, [], ◌∷◌, ◌++◌, map, length, get_or, take, drop, Some, None, Option, refl, ap, arith}
 use Rattle.std.specs.Str.{bytes_eq}
-use Rattle.std.proofs.lemmas.Slice.Eq.{bytes_eq-Decides}
-use Rattle.std.proofs.lemmas.Bool.Decides.{same_from_decides}
 use Rattle.syntax.specs.declared.refusal.Fault.TheVariants.{Unused}
 use Rattle.syntax.specs.declared.refusal.Refusal.{Refusal}
 use Rattle.syntax.specs.Trees.{Name}
@@ -19,9 +17,6 @@ pub take-map : {X Y : Type 0} (f : X → Y) (n : ℕ) (xs : List X) → take n (
 take-map f zero xs = refl
 take-map f (suc n) [] = refl
 take-map {Y = Y} f (suc n) (x ∷ xs) = ap (λ (r : List Y). f x ∷ r) (take-map f n xs)
-
-pub same_is : (w x : List ℕ) (r : Bool) → Decides r (x ≡ w) → r ≡ bytes_eq w x
-same_is w x r d = same_from_decides r (bytes_eq w x) ((λ t. sym (d.0 t), λ e. d.1 (sym e))) (bytes_eq-Decides w x)
 
 pub among_hit : (w : Name) (xs : List Name) (i : ℕ) → i < length xs → bytes_eq w (get_or xs i []) ≡ true → among w xs ≡ true
 among_hit w [] i h e = absurd (omega arith)

@@ -12,7 +12,7 @@ use Rattle.syntax.specs.declared.program.TypeCell.{TypeCell}
 use Rattle.syntax.specs.declared.refusal.Refusal.{Refusal}
 use Rattle.syntax.specs.declared.scope.Scope.{Scope}
 use Rattle.syntax.specs.declared.tables.Program.{Program}
-use Rattle.syntax.specs.Trees.{Name, Binder, Tree, occ, num, lam, pair}
+use Rattle.syntax.specs.Trees.{Name, Binder, Tree, occ, num, lam}
 use Rattle.syntax.specs.Signs.{lex}
 use Rattle.syntax.specs.Parse.{Out, got, expect, is_mark, is_word_in, function_head, let_head}
 use Rattle.syntax.specs.Names.{binder_of}

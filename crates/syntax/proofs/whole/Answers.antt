@@ -8,20 +8,20 @@ empty : (s : List ℕ) → length s ≡ 0 → [] ≡ s
 empty [] e = refl
 empty (b ∷ s) e = absurd (omega arith)
 
-pub returns-then-not-is-empty : goal.returns-then-not-is-empty
-returns-then-not-is-empty c =
+pub returns-then-not-is_empty : goal.returns-then-not-is_empty
+returns-then-not-is_empty c =
     let text = c.args.text.now in
-    let x = c.in-ok-root.ensures.gives in
+    let x = c.in_ok-root.ensures.gives in
     let e = start (length text) (lex (length text) text) (vec_items c.args.program.now.subterms) (vec_items c.args.program.now.types) _ c.requires.subterms c.requires.types x.1 in
-    let some : 1 ≤ length c.skip-rest.result.now = grind (arith, nat_tests, c.if-not-is-empty.true, c.is_empty_lem.ensures) in
-    more_signs text (omega (arith, c.if-end-gt-LONGEST.false)) x.0 c.in-ok-root.rest.now e c.skip-rest.result.now c.skip-rest.ensures some ∙ ap Err (sym c.wrong_sign.ensures)
+    let some : 1 ≤ length c.skip-rest.result.now = grind (arith, nat_tests, c.if-not-is_empty.true, c.is_empty.ensures) in
+    more_signs text (omega (arith, c.if-end-gt-LONGEST.false)) x.0 c.in_ok-root.rest.now e c.skip-rest.result.now c.skip-rest.ensures some ∙ ap Err (sym c.wrong_sign.ensures)
 
 pub returns-in-None : goal.returns-in-None
 returns-in-None c =
-    let none : length c.skip-rest.result.now ≡ 0 = grind (arith, nat_tests, c.if-not-is-empty.false, c.is_empty_lem.ensures) in
-    all_read c.args.text.now (omega (arith, c.if-end-gt-LONGEST.false)) c.args.program.now c.term.new.program c.args.scope.now c.term.new.scope (c.in-ok-root.root, c.in-ok-root.rest) c.requires.subterms c.requires.types c.requires.names c.in-ok-root.ensures (empty c.skip-rest.result.now none ∙ c.skip-rest.ensures) c.in-None.is
+    let none : length c.skip-rest.result.now ≡ 0 = grind (arith, nat_tests, c.if-not-is_empty.false, c.is_empty.ensures) in
+    all_read c.args.text.now (omega (arith, c.if-end-gt-LONGEST.false)) c.args.program.now c.term.new.program c.args.scope.now c.term.new.scope (c.in_ok-root.root, c.in_ok-root.rest) c.requires.subterms c.requires.types c.requires.names c.in_ok-root.ensures (empty c.skip-rest.result.now none ∙ c.skip-rest.ensures) c.in-None.is
 
 pub returns-in-Some : goal.returns-in-Some
 returns-in-Some c =
-    let none : length c.skip-rest.result.now ≡ 0 = grind (arith, nat_tests, c.if-not-is-empty.false, c.is_empty_lem.ensures) in
-    misnamed c.args.text.now (omega (arith, c.if-end-gt-LONGEST.false)) c.args.program.now c.term.new.program c.args.scope.now c.term.new.scope (c.in-ok-root.root, c.in-ok-root.rest) c.requires.subterms c.requires.types c.requires.names c.in-ok-root.ensures (empty c.skip-rest.result.now none ∙ c.skip-rest.ensures) c.in-Some.refusal c.in-Some.is
+    let none : length c.skip-rest.result.now ≡ 0 = grind (arith, nat_tests, c.if-not-is_empty.false, c.is_empty.ensures) in
+    misnamed c.args.text.now (omega (arith, c.if-end-gt-LONGEST.false)) c.args.program.now c.term.new.program c.args.scope.now c.term.new.scope (c.in_ok-root.root, c.in_ok-root.rest) c.requires.subterms c.requires.types c.requires.names c.in_ok-root.ensures (empty c.skip-rest.result.now none ∙ c.skip-rest.ensures) c.in-Some.refusal c.in-Some.is

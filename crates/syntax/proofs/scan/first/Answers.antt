@@ -1,11 +1,10 @@
 use Rattle.std.proofs.Common.{◌≤◌, length, get_or, sym, refl, ap, ◌∙◌, arith, rules}
 use Rattle.std.proofs.lemmas.Bool.Decides.{nat_tests}
-use Rattle.syntax.specs.Signs.{letter, digit}
 use Rattle.syntax.specs.Parse.{refused}
 use Rattle.syntax.proofs.TypeSteps.{mark_first}
 use Rattle.syntax.proofs.FirstSteps.{NoTerm, by_none}
 use Rattle.syntax.proofs.scan.first.Goals as goal
-use Rattle.syntax.proofs.scan.first.Goals.{in-default-via-then-text-lt1, in-default-via-else-text-lt1+in-default·+then-text-lt48, in-default-via-else-text-lt1+in-default·+else-text-lt48+else-text-lt58+then-text-lt97, in-default-via-else-text-lt1+in-default·+else-text-lt48+else-text-lt58+else-text-lt97+else-text-lt123}
+use Rattle.syntax.proofs.scan.first.Goals.{in_default-via-then-text-lt1, in_default-via-else-text-lt1+in_default+then-text-lt48, in_default-via-else-text-lt1+in_default+else-text-lt48+else-text-lt58+then-text-lt97, in_default-via-else-text-lt1+in_default+else-text-lt48+else-text-lt58+else-text-lt97+else-text-lt123}
 
 pub returns-in-83 : goal.returns-in-83
 returns-in-83 c =
@@ -27,13 +26,13 @@ returns-in-60 c =
     let e = mark_first c.args.end c.args.text.now c.args.text.now c.requires (search rules) 60 (search rules) refl refl in
     λ fits part n m. rw e refl
 
-pub returns-in-default : goal.returns-in-default
-returns-in-default c =
+pub returns-in_default : goal.returns-in_default
+returns-in_default c =
     let s = c.args.text.now in
-    let none : 1 ≤ length s → NoTerm (get_or s 0 0) = λ h. elim c.in-default.branch [
-      | in-default-via-then-text-lt1 w ↦ absurd (search rules)
-      | in-default-via-else-text-lt1+in-default·+then-text-lt48 w ↦ record { letter = grind (arith, nat_tests); digit = grind (arith, nat_tests); s = λ e. search rules; lam = λ e. search rules; bracket = λ e. search rules; pair = λ e. search rules }
-      | in-default-via-else-text-lt1+in-default·+else-text-lt48+else-text-lt58+then-text-lt97 w ↦ record { letter = grind (arith, nat_tests); digit = grind (arith, nat_tests); s = λ e. search rules; lam = λ e. search rules; bracket = λ e. search rules; pair = λ e. search rules }
-      | in-default-via-else-text-lt1+in-default·+else-text-lt48+else-text-lt58+else-text-lt97+else-text-lt123 w ↦ record { letter = grind (arith, nat_tests); digit = grind (arith, nat_tests); s = λ e. search rules; lam = λ e. search rules; bracket = λ e. search rules; pair = λ e. search rules }
+    let none : 1 ≤ length s → NoTerm (get_or s 0 0) = λ h. elim c.in_default.branch [
+      | in_default-via-then-text-lt1 w ↦ absurd (search rules)
+      | in_default-via-else-text-lt1+in_default+then-text-lt48 w ↦ record { letter = grind (arith, nat_tests); digit = grind (arith, nat_tests); s = λ e. search rules; lam = λ e. search rules; bracket = λ e. search rules; pair = λ e. search rules }
+      | in_default-via-else-text-lt1+in_default+else-text-lt48+else-text-lt58+then-text-lt97 w ↦ record { letter = grind (arith, nat_tests); digit = grind (arith, nat_tests); s = λ e. search rules; lam = λ e. search rules; bracket = λ e. search rules; pair = λ e. search rules }
+      | in_default-via-else-text-lt1+in_default+else-text-lt48+else-text-lt58+else-text-lt97+else-text-lt123 w ↦ record { letter = grind (arith, nat_tests); digit = grind (arith, nat_tests); s = λ e. search rules; lam = λ e. search rules; bracket = λ e. search rules; pair = λ e. search rules }
     ] in
     λ fits part n m. by_none c.args.end s fits part n m c.requires none ∙ ap refused (sym c.wrong_sign.ensures)

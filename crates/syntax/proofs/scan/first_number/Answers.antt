@@ -33,4 +33,4 @@ pub returns-in-Err : goal.returns-in-Err
 returns-in-Err c =
     let s = c.args.text.now in
     let e = digits_front c.args.end s c.run.result.0.now c.run.result.1.now c.requires.starts c.requires.digit c.run.ensures.front c.run.ensures.rest in
-    λ fits part n m. failed c.args.end s fits part n m c.in-Err.fault e c.in-Err.ensures ∙ ap (λ p. refused (fault c.in-Err.fault p)) (sym c.place_of_lem.ensures)
+    λ fits part n m. failed c.args.end s fits part n m c.in-Err.fault e c.in-Err.ensures ∙ ap (λ p. refused (fault c.in-Err.fault p)) (sym c.place_of.ensures)

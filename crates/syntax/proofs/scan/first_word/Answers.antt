@@ -4,32 +4,32 @@ use Rattle.syntax.specs.Parse.{refused}
 use Rattle.syntax.proofs.FirstSteps.{word_front, by_let, by_iter_lem, by_name, by_no_name}
 use Rattle.syntax.proofs.scan.first_word.Goals as goal
 
-pub returns-in-108 : goal.returns-in-108
-returns-in-108 c =
+pub returns-in-let : goal.returns-in-let
+returns-in-let c =
     let w = c.run.result.0.now in
     let e = word_front c.args.end c.args.text.now w c.run.result.1.now c.requires.starts c.requires.letter c.run.ensures.front c.run.ensures.rest in
     let f : w ≡ codes "let" = text_from_reads _ _ (search rules) (search rules) in
     λ fits part n m. by_let c.args.end c.args.text.now fits part n m e f
 
-pub returns-in-105 : goal.returns-in-105
-returns-in-105 c =
+pub returns-in-iter : goal.returns-in-iter
+returns-in-iter c =
     let w = c.run.result.0.now in
     let e = word_front c.args.end c.args.text.now w c.run.result.1.now c.requires.starts c.requires.letter c.run.ensures.front c.run.ensures.rest in
     let f : w ≡ codes "iter" = text_from_reads _ _ (search rules) (search rules) in
     λ fits part n m. by_iter_lem c.args.end c.args.text.now fits part n m e f
 
-pub returns-then-not-is-name : goal.returns-then-not-is-name
-returns-then-not-is-name c =
+pub returns-then-not-is_name : goal.returns-then-not-is_name
+returns-then-not-is_name c =
     let w = c.run.result.0.now in
     let e = word_front c.args.end c.args.text.now w c.run.result.1.now c.requires.starts c.requires.letter c.run.ensures.front c.run.ensures.rest in
     let a : w ≡ codes "let" → ⊥ = search rules in
     let b : w ≡ codes "iter" → ⊥ = search rules in
-    λ fits part n m. by_no_name c.args.end c.args.text.now fits part n m e a b (sym c.is-name.ensures ∙ c.if-not-is-name.true) ∙ ap refused (sym c.wrong_sign.ensures)
+    λ fits part n m. by_no_name c.args.end c.args.text.now fits part n m e a b (sym c.is_name.ensures ∙ c.if-not-is_name.true) ∙ ap refused (sym c.wrong_sign.ensures)
 
-pub returns-else-not-is-name : goal.returns-else-not-is-name
-returns-else-not-is-name c =
+pub returns-else-not-is_name : goal.returns-else-not-is_name
+returns-else-not-is_name c =
     let w = c.run.result.0.now in
     let e = word_front c.args.end c.args.text.now w c.run.result.1.now c.requires.starts c.requires.letter c.run.ensures.front c.run.ensures.rest in
     let a : w ≡ codes "let" → ⊥ = search rules in
     let b : w ≡ codes "iter" → ⊥ = search rules in
-    λ fits part n m. by_name c.args.end c.args.text.now fits part n m e a b (sym c.is-name.ensures ∙ c.if-not-is-name.false)
+    λ fits part n m. by_name c.args.end c.args.text.now fits part n m e a b (sym c.is_name.ensures ∙ c.if-not-is_name.false)

@@ -10,10 +10,10 @@ loop-rest-preserved c =
     let g : blank (get_or c.loop-rest.rest.now 0 0) ≡ true = grind (arith, nat_tests) in
     skip_on c.loop-rest.rest.now h g ∙ c.loop-rest.invariant
 
-pub returns-in-default : goal.returns-in-default
-returns-in-default c =
+pub returns-in_default : goal.returns-in_default
+returns-in_default c =
     let h : length c.loop-rest.rest.now < 1 = search rules in
     sym (skip_off c.loop-rest.rest.now (λ k. absurd (omega arith))) ∙ c.loop-rest.invariant
 
-pub returns-in-default·2 : goal.returns-in-default·2
-returns-in-default·2 c = sym (skip_off c.loop-rest.rest.now (λ k. grind (arith, nat_tests))) ∙ c.loop-rest.invariant
+pub returns-in_default-2 : goal.returns-in_default-2
+returns-in_default-2 c = sym (skip_off c.loop-rest.rest.now (λ k. grind (arith, nat_tests))) ∙ c.loop-rest.invariant

@@ -24,11 +24,11 @@ use_again p i s x e u = rw (e, u) refl
 use_first : (p i : ℕ) (s : Names) (x : InForce) → get_or s.force i nobody ≡ x → x.used ≡ false → use_at p i s ≡ record { bound = s.bound; force = set s.force i (record { binder = x.binder; used = true }); least = s.least }
 use_first p i s x e u = rw (e, u) refl
 
-pub returns-in-default : goal.returns-in-default
-returns-in-default c =
+pub returns-in_default : goal.returns-in_default
+returns-in_default c =
     let s = names_of c.args.scope.now in
     let w = c.args.word.now in
-    let e : found w s.force ≡ None = ap (λ xs. found w (map name_in_force xs)) (sym c.deref.ensures.value) ∙ sym c.found.ensures ∙ c.in-default.is in
+    let e : found w s.force ≡ None = ap (λ xs. found w (map name_in_force xs)) (sym c.deref.ensures.value) ∙ sym c.found.ensures ∙ c.in_default.is in
     let F : Option Refusal → Names = λ f. record { bound = s.bound; force = s.force; least = f } in
     record { names = ap F c.sooner-scope.ensures ∙ sym (occur_none c.args.place w s e); binder = sym (binder_none w s.force c.args.place e) }
 
@@ -39,8 +39,8 @@ index-name-requires c =
     let e : found w (map name_in_force (vec_items v)) ≡ Some c.in-Some.i = ap (λ xs. found w (map name_in_force xs)) (sym c.deref.ensures.value) ∙ sym c.found.ensures ∙ c.in-Some.is in
     omega (arith, found_within w (map name_in_force (vec_items v)) c.in-Some.i e, length-map (vec_items v) name_in_force, v.ok.0)
 
-pub index-mut-requires : goal.index-mut-requires
-index-mut-requires c =
+pub index_mut-requires : goal.index_mut-requires
+index_mut-requires c =
     let v = c.args.scope.now.in_force in
     let w = c.args.word.now in
     let e : found w (map name_in_force (vec_items v)) ≡ Some c.in-Some.i = ap (λ xs. found w (map name_in_force xs)) (sym c.deref.ensures.value) ∙ sym c.found.ensures ∙ c.in-Some.is in

@@ -20,8 +20,8 @@ loop-name-preserved c =
     ap (λ s. unused (map name_in_force s) f) more ∙ ap (λ s. unused s f) (map-append name_in_force (take i xs) (x ∷ [])) ∙ unused-push (map name_in_force (take i xs)) (name_in_force x) f in
     let was : c.loop-name.least ≡ unused (map name_in_force (take i xs)) f = c.loop-name.invariant in
     elim c.if-not-name.branch [
-      | then-not-name w ↦ w.least_is ∙ w.sooner-least.ensures ∙ ap (sooner (fault Unused x.place)) was ∙ sym (now ∙ ap (λ v. cond v (unused (map name_in_force (take i xs)) f) (sooner (fault Unused x.place) (unused (map name_in_force (take i xs)) f))) w.if-not-name.true)
-      | else-not-name w ↦ w.least_is ∙ was ∙ sym (now ∙ ap (λ v. cond v (unused (map name_in_force (take i xs)) f) (sooner (fault Unused x.place) (unused (map name_in_force (take i xs)) f))) w.if-not-name.false)
+      | then-not-name w ↦ w.least-is ∙ w.sooner-least.ensures ∙ ap (sooner (fault Unused x.place)) was ∙ sym (now ∙ ap (λ v. cond v (unused (map name_in_force (take i xs)) f) (sooner (fault Unused x.place) (unused (map name_in_force (take i xs)) f))) w.if-not-name.true)
+      | else-not-name w ↦ w.least-is ∙ was ∙ sym (now ∙ ap (λ v. cond v (unused (map name_in_force (take i xs)) f) (sooner (fault Unused x.place) (unused (map name_in_force (take i xs)) f))) w.if-not-name.false)
     ]
 
 pub returns : goal.returns

@@ -14,12 +14,12 @@ use Rattle.syntax.proofs.terms.+after_first_application_body_function_iterator_l
 pub term-first-requires : goal.term-first-requires
 term-first-requires t c = rw c.skip-text.ensures (sym (skipped_twice c.args.text.now))
 
-pub term-returns-in-err-first : goal.term-returns-in-err-first
-term-returns-in-err-first t c =
+pub term-returns-in_err-first : goal.term-returns-in_err-first
+term-returns-in_err-first t c =
     let subs = vec_items c.args.program.now.subterms in
     let cells = vec_items c.args.program.now.types in
-    let q = err_from_is_err_and c.from-residual.result c.from-residual.ensures.1 in
-    record { gives = rw (q.1, q.2) (first_refused c.args.end c.args.depth (length subs + c.args.depth) (length cells) c.args.text.now c.skip-text.result.now c.skip-text.ensures _ c.in-err-first.ensures); kept = refl }
+    let q = err_from_is_err_and c.from_residual.result c.from_residual.ensures.1 in
+    record { gives = rw (q.1, q.2) (first_refused c.args.end c.args.depth (length subs + c.args.depth) (length cells) c.args.text.now c.skip-text.result.now c.skip-text.ensures _ c.in_err-first.ensures); kept = refl }
 
 pub term-returns-then-depth-ge-DEPTH : goal.term-returns-then-depth-ge-DEPTH
 term-returns-then-depth-ge-DEPTH t c =
@@ -27,60 +27,60 @@ term-returns-then-depth-ge-DEPTH t c =
     let subs = vec_items c.args.program.now.subterms in
     let cells = vec_items c.args.program.now.types in
     let full : (128 ≤ d) ⊎ (2048 ≤ length subs + d) = elim c.then-depth-ge-DEPTH.branch [ term-then-depth-ge-DEPTH-via-then-depth-ge-DEPTH w ↦ inl w.if-depth-ge-DEPTH.true | term-then-depth-ge-DEPTH-via-else-depth-ge-DEPTH+then-len-depth-ge-SUBTERMS w ↦ inr (omega (arith, w.len.ensures, w.if-len-depth-ge-SUBTERMS.true, c.args.program.now.subterms.ok.0)) ] in
-    record { gives = first_full c.args.end d (length subs + d) (length cells) c.args.text.now c.skip-text.result.now c.skip-text.ensures (c.in-ok-first.first, c.in-ok-first.rest) c.in-ok-first.ensures full ∙ ap refused (sym c.passed_limit.ensures); kept = refl }
+    record { gives = first_full c.args.end d (length subs + d) (length cells) c.args.text.now c.skip-text.result.now c.skip-text.ensures (c.in_ok-first.first, c.in_ok-first.rest) c.in_ok-first.ensures full ∙ ap refused (sym c.passed_limit.ensures); kept = refl }
 
 pub term-returns : goal.term-returns
 term-returns t c =
     let d = c.args.depth in
     let subs = vec_items c.args.program.now.subterms in
     let few : length subs + d < 2048 = omega (arith, c.len.ensures, c.if-len-depth-ge-SUBTERMS.false, c.args.program.now.subterms.ok.0) in
-    read_as (first_read c.args.end d (length subs + d) (length (vec_items c.args.program.now.types)) c.args.text.now c.skip-text.result.now c.skip-text.ensures (c.in-ok-first.first, c.in-ok-first.rest) c.in-ok-first.ensures c.place-of-place.result c.if-depth-ge-DEPTH.false few c.place-of-place.ensures) c.after-first.ensures
+    read_as (first_read c.args.end d (length subs + d) (length (vec_items c.args.program.now.types)) c.args.text.now c.skip-text.result.now c.skip-text.ensures (c.in_ok-first.first, c.in_ok-first.rest) c.in_ok-first.ensures c.place_of-place.result c.if-depth-ge-DEPTH.false few c.place_of-place.ensures) c.after_first.ensures
 
-pub after-first-returns-in-Name : goal.after-first-returns-in-Name
-after-first-returns-in-Name t c =
+pub after_first-returns-in-Name : goal.after_first-returns-in-Name
+after_first-returns-in-Name t c =
     sign_as c.args.at c.args.text.now c.in-Name.is (name_follows c.args.at c.args.text c.requires c.in-Name.word c.occur-binder.ensures.names c.occur-binder.ensures.binder c.put.ensures)
 
-pub after-first-returns-in-Number : goal.after-first-returns-in-Number
-after-first-returns-in-Number t c =
+pub after_first-returns-in-Number : goal.after_first-returns-in-Number
+after_first-returns-in-Number t c =
     sign_as c.args.at c.args.text.now c.in-Number.is (number_follows c.args.at c.args.text c.requires c.in-Number.number c.put-in-Number.ensures)
 
 pub successor-returns : goal.successor-returns
-successor-returns t c = succ_follows c.args.at c.args.text.now c.in-ok-body.ensures c.put.ensures
+successor-returns t c = succ_follows c.args.at c.args.text.now c.in_ok-body.ensures c.put.ensures
 
 pub application-term-requires-2 : goal.application-term-requires-2
-application-term-requires-2 t c = (search rules, next-room c.in-ok-function.ensures (omega (arith, c.requires.room.force)))
+application-term-requires-2 t c = (search rules, next-room c.in_ok-function.ensures (omega (arith, c.requires.room.force)))
 
 pub application-returns : goal.application-returns
-application-returns t c = app_follows c.args.at c.args.text.now c.in-ok-function.ensures c.in-ok-rest.rest c.in-ok-argument.ensures c.in-ok-rest.ensures c.put.ensures
+application-returns t c = app_follows c.args.at c.args.text.now c.in_ok-function.ensures c.in_ok-rest.rest c.in_ok-argument.ensures c.in_ok-rest.ensures c.put.ensures
 
 pub pair-term-requires-2 : goal.pair-term-requires-2
-pair-term-requires-2 t c = (search rules, next-room c.in-ok-first.ensures (omega (arith, c.requires.room.force)))
+pair-term-requires-2 t c = (search rules, next-room c.in_ok-first.ensures (omega (arith, c.requires.room.force)))
 
 pub pair-returns : goal.pair-returns
-pair-returns t c = pair_follows c.args.at c.args.text.now c.in-ok-first.ensures c.in-ok-rest.rest c.in-ok-rest-2.rest c.in-ok-rest.ensures c.in-ok-second.ensures c.in-ok-rest-2.ensures c.put.ensures
+pair-returns t c = pair_follows c.args.at c.args.text.now c.in_ok-first.ensures c.in_ok-rest.rest c.in_ok-rest-2.rest c.in_ok-rest.ensures c.in_ok-second.ensures c.in_ok-rest-2.ensures c.put.ensures
 
 pub iterator-term-requires-2 : goal.iterator-term-requires-2
-iterator-term-requires-2 t c = (search rules, next-room c.in-ok-count.ensures (omega (arith, c.requires.room.force)))
+iterator-term-requires-2 t c = (search rules, next-room c.in_ok-count.ensures (omega (arith, c.requires.room.force)))
 
 pub iterator-term-requires-3 : goal.iterator-term-requires-3
 iterator-term-requires-3 t c =
-    let room = next-room c.in-ok-count.ensures (omega (arith, c.requires.room.force)) in
-    (search rules, next-room c.in-ok-step.ensures room.force)
+    let room = next-room c.in_ok-count.ensures (omega (arith, c.requires.room.force)) in
+    (search rules, next-room c.in_ok-step.ensures room.force)
 
 pub iterator-returns : goal.iterator-returns
-iterator-returns t c = iter_follows c.args.at c.args.text.now c.in-ok-count.ensures c.in-ok-step.ensures c.in-ok-base.ensures c.put.ensures
+iterator-returns t c = iter_follows c.args.at c.args.text.now c.in_ok-count.ensures c.in_ok-step.ensures c.in_ok-base.ensures c.put.ensures
 
 pub body-settle-requires : goal.body-settle-requires
-body-settle-requires t c = omega (arith, kept_force c.args.scope.now c.term.new.scope c.term.ensures.kept, c.requires.own_val)
+body-settle-requires t c = omega (arith, kept_force c.args.scope.now c.term.new.scope c.term.ensures.kept, c.requires.own)
 
-pub body-returns-in-err-body : goal.body-returns-in-err-body
-body-returns-in-err-body t c =
-    let q = err_from_is_err_and c.from-residual.result c.from-residual.ensures.1 in
-    rw (q.1, q.2) (record { gives = c.in-err-body.ensures.gives; kept = ap (λ (n : Names). binders_of n.force) c.drop-guard.ensures ∙ shut_kept c.args.before (names_of c.term.new.scope) c.args.scope.now c.term.ensures.kept })
+pub body-returns-in_err-body : goal.body-returns-in_err-body
+body-returns-in_err-body t c =
+    let q = err_from_is_err_and c.from_residual.result c.from_residual.ensures.1 in
+    rw (q.1, q.2) (record { gives = c.in_err-body.ensures.gives; kept = ap (λ (n : Names). binders_of n.force) c.drop-guard.ensures ∙ shut_kept c.args.before (names_of c.term.new.scope) c.args.scope.now c.term.ensures.kept })
 
 pub body-returns : goal.body-returns
 body-returns t c =
-    let x = c.in-ok-body.ensures.gives in
+    let x = c.in_ok-body.ensures.gives in
     let late = names_of c.term.new.scope in
     let left = c.drop-guard-2.ensures ∙ ap (shut c.args.before) c.settle.ensures in
     record {
@@ -90,100 +90,100 @@ body-returns t c =
 
 pub function-declare-requires : goal.function-declare-requires
 function-declare-requires t c =
-    record { room = omega (arith, bound_count c.args.scope.now, c.requires.room.bound, c.requires.few); short = c.in-ok-head.ensures.gives.2.binder.short }
+    record { room = omega (arith, bound_count c.args.scope.now, c.requires.room.bound, c.requires.few); short = c.in_ok-head.ensures.gives.2.binder.short }
 
 pub function-enter-requires : goal.function-enter-requires
 function-enter-requires t c =
-    record { room = omega (arith, declared_force _ c.args.scope.now c.declare.new.scope c.declare.ensures, force_count c.args.scope.now, c.requires.room.force, c.requires.deep); short = c.in-ok-head.ensures.gives.2.binder.short }
+    record { room = omega (arith, declared_force _ c.args.scope.now c.declare.new.scope c.declare.ensures, force_count c.args.scope.now, c.requires.room.force, c.requires.deep); short = c.in_ok-head.ensures.gives.2.binder.short }
 
 pub function-body-requires : goal.function-body-requires
 function-body-requires t c =
-    let f = binder_at c.in-ok-head.head.binder in
-    let x = c.in-ok-head.ensures.gives in
+    let f = binder_at c.in_ok-head.head.binder in
+    let x = c.in_ok-head.ensures.gives in
     let S = c.args.scope.now in (
       search rules,
       (
         c.requires.deep,
         (
-          function-room c.args.at c.args.program.now S c.enter.new.scope f (vec_items c.function-head.new.types) c.requires (c.enter.ensures ∙ ap (enter f) c.declare.ensures) (omega (arith, x.2.counted, x.2.few)),
+          function-room c.args.at c.args.program.now S c.enter.new.scope f (vec_items c.function_head.new.types) c.requires (c.enter.ensures ∙ ap (enter f) c.declare.ensures) (omega (arith, x.2.counted, x.2.few)),
           omega (arith, c.len-before.ensures, S.in_force.ok.0, declared_force f S c.declare.new.scope c.declare.ensures, entered_force f c.declare.new.scope c.enter.new.scope c.enter.ensures),
         ),
       ),
     )
 
-pub function-returns-in-err-body : goal.function-returns-in-err-body
-function-returns-in-err-body t c =
-    let f = binder_at c.in-ok-head.head.binder in
+pub function-returns-in_err-body : goal.function-returns-in_err-body
+function-returns-in_err-body t c =
+    let f = binder_at c.in_ok-head.head.binder in
     let S = c.args.scope.now in
     let high : c.len-before.result ≡ length (names_of S).force = omega (arith, c.len-before.ensures, S.in_force.ok.0, force_count S) in
-    let q = err_from_is_err_and c.from-residual-in-err-body.result c.from-residual-in-err-body.ensures.1 in
-    rw (q.1, q.2) (function_stopped c.args.at c.args.text.now c.args.program.now _ S c.enter.new.scope c.len-before.result c.in-ok-head.head c.in-ok-head.rest (c.enter.ensures ∙ ap (enter f) c.declare.ensures) high c.in-err-body.ensures refl c.in-ok-head.ensures.gives)
+    let q = err_from_is_err_and c.from_residual-in_err-body.result c.from_residual-in_err-body.ensures.1 in
+    rw (q.1, q.2) (function_stopped c.args.at c.args.text.now c.args.program.now _ S c.enter.new.scope c.len-before.result c.in_ok-head.head c.in_ok-head.rest (c.enter.ensures ∙ ap (enter f) c.declare.ensures) high c.in_err-body.ensures refl c.in_ok-head.ensures.gives)
 
 pub function-returns : goal.function-returns
 function-returns t c =
-    let f = binder_at c.in-ok-head.head.binder in
+    let f = binder_at c.in_ok-head.head.binder in
     let S = c.args.scope.now in
     let high : c.len-before.result ≡ length (names_of S).force = omega (arith, c.len-before.ensures, S.in_force.ok.0, force_count S) in
-    function_follows c.args.at c.args.text.now c.args.program.now _ S c.enter.new.scope c.len-before.result c.in-ok-head.head c.in-ok-head.rest (c.enter.ensures ∙ ap (enter f) c.declare.ensures) high c.in-ok-body.ensures refl c.in-ok-head.ensures.gives c.put.ensures
+    function_follows c.args.at c.args.text.now c.args.program.now _ S c.enter.new.scope c.len-before.result c.in_ok-head.head c.in_ok-head.rest (c.enter.ensures ∙ ap (enter f) c.declare.ensures) high c.in_ok-body.ensures refl c.in_ok-head.ensures.gives c.put.ensures
 
-pub let-in-declare-requires : goal.let-in-declare-requires
-let-in-declare-requires t c =
-    record { room = omega (arith, bound_count c.args.scope.now, c.requires.room.bound, c.requires.few); short = c.in-ok-first.ensures.2.0.short }
+pub let_in-declare-requires : goal.let_in-declare-requires
+let_in-declare-requires t c =
+    record { room = omega (arith, bound_count c.args.scope.now, c.requires.room.bound, c.requires.few); short = c.in_ok-first.ensures.2.0.short }
 
-pub let-in-declare-requires-2 : goal.let-in-declare-requires-2
-let-in-declare-requires-2 t c =
-    record { room = omega (arith, declared_bound _ c.args.scope.now c.declare.new.scope c.declare.ensures, bound_count c.args.scope.now, c.requires.room.bound, c.requires.few); short = c.in-ok-first.ensures.2.1.short }
+pub let_in-declare-requires-2 : goal.let_in-declare-requires-2
+let_in-declare-requires-2 t c =
+    record { room = omega (arith, declared_bound _ c.args.scope.now c.declare.new.scope c.declare.ensures, bound_count c.args.scope.now, c.requires.room.bound, c.requires.few); short = c.in_ok-first.ensures.2.1.short }
 
-pub let-in-term-requires : goal.let-in-term-requires
-let-in-term-requires t c =
-    let f = binder_at c.in-ok-first.first in
-    let g = binder_at c.in-ok-first.second in
+pub let_in-term-requires : goal.let_in-term-requires
+let_in-term-requires t c =
+    let f = binder_at c.in_ok-first.first in
+    let g = binder_at c.in_ok-first.second in
     (search rules, pair_room c.args.at c.args.program.now c.args.scope.now c.declare-2.new.scope f g (c.declare-2.ensures ∙ ap (declare g) c.declare.ensures) c.requires)
 
-pub let-in-enter-requires : goal.let-in-enter-requires
-let-in-enter-requires t c =
+pub let_in-enter-requires : goal.let_in-enter-requires
+let_in-enter-requires t c =
     let S = c.args.scope.now in
     let S₂ = c.declare-2.new.scope in
-    let same = kept_force S₂ c.term.new.scope c.in-ok-pair.ensures.kept in
-    record { room = omega (arith, same, declared_force _ S c.declare.new.scope c.declare.ensures, declared_force _ c.declare.new.scope S₂ c.declare-2.ensures, force_count S, c.requires.room.force, c.requires.deep); short = c.in-ok-first.ensures.2.0.short }
+    let same = kept_force S₂ c.term.new.scope c.in_ok-pair.ensures.kept in
+    record { room = omega (arith, same, declared_force _ S c.declare.new.scope c.declare.ensures, declared_force _ c.declare.new.scope S₂ c.declare-2.ensures, force_count S, c.requires.room.force, c.requires.deep); short = c.in_ok-first.ensures.2.0.short }
 
-pub let-in-enter-requires-2 : goal.let-in-enter-requires-2
-let-in-enter-requires-2 t c =
+pub let_in-enter-requires-2 : goal.let_in-enter-requires-2
+let_in-enter-requires-2 t c =
     let S = c.args.scope.now in
     let S₂ = c.declare-2.new.scope in
-    let same = kept_force S₂ c.term.new.scope c.in-ok-pair.ensures.kept in
-    record { room = omega (arith, same, declared_force _ S c.declare.new.scope c.declare.ensures, declared_force _ c.declare.new.scope S₂ c.declare-2.ensures, entered_force _ c.term.new.scope c.enter.new.scope c.enter.ensures, force_count S, c.requires.room.force, c.requires.deep); short = c.in-ok-first.ensures.2.1.short }
+    let same = kept_force S₂ c.term.new.scope c.in_ok-pair.ensures.kept in
+    record { room = omega (arith, same, declared_force _ S c.declare.new.scope c.declare.ensures, declared_force _ c.declare.new.scope S₂ c.declare-2.ensures, entered_force _ c.term.new.scope c.enter.new.scope c.enter.ensures, force_count S, c.requires.room.force, c.requires.deep); short = c.in_ok-first.ensures.2.1.short }
 
-pub let-in-body-requires : goal.let-in-body-requires
-let-in-body-requires t c =
-    let f = binder_at c.in-ok-first.first in
-    let g = binder_at c.in-ok-first.second in
+pub let_in-body-requires : goal.let_in-body-requires
+let_in-body-requires t c =
+    let f = binder_at c.in_ok-first.first in
+    let g = binder_at c.in_ok-first.second in
     let S₃ = c.term.new.scope in (
       search rules,
       (
         c.requires.deep,
         (
-          let_room c.args.at c.args.program.now c.args.scope.now c.declare-2.new.scope f g (c.declare-2.ensures ∙ ap (declare g) c.declare.ensures) c.in-ok-first.rest.now c.in-ok-pair.ensures c.enter-2.new.scope (c.enter-2.ensures ∙ ap (enter g) c.enter.ensures) c.requires,
+          let_room c.args.at c.args.program.now c.args.scope.now c.declare-2.new.scope f g (c.declare-2.ensures ∙ ap (declare g) c.declare.ensures) c.in_ok-first.rest.now c.in_ok-pair.ensures c.enter-2.new.scope (c.enter-2.ensures ∙ ap (enter g) c.enter.ensures) c.requires,
           omega (arith, c.len-before.ensures, S₃.in_force.ok.0, entered_force f S₃ c.enter.new.scope c.enter.ensures, entered_force g c.enter.new.scope c.enter-2.new.scope c.enter-2.ensures),
         ),
       ),
     )
 
-pub let-in-returns-in-err-body : goal.let-in-returns-in-err-body
-let-in-returns-in-err-body t c =
-    let f = binder_at c.in-ok-first.first in
-    let g = binder_at c.in-ok-first.second in
-    let w = c.in-ok-first.ensures in
+pub let_in-returns-in_err-body : goal.let_in-returns-in_err-body
+let_in-returns-in_err-body t c =
+    let f = binder_at c.in_ok-first.first in
+    let g = binder_at c.in_ok-first.second in
+    let w = c.in_ok-first.ensures in
     let S₃ = c.term.new.scope in
     let high : c.len-before.result ≡ length (names_of S₃).force = omega (arith, c.len-before.ensures, S₃.in_force.ok.0, force_count S₃) in
-    let q = err_from_is_err_and c.from-residual-in-err-body.result c.from-residual-in-err-body.ensures.1 in
-    rw (q.1, q.2) (let_stopped c.args.at c.args.program.now c.args.scope.now c.declare-2.new.scope f g (c.declare-2.ensures ∙ ap (declare g) c.declare.ensures) c.in-ok-first.rest.now c.in-ok-pair.ensures c.enter-2.new.scope (c.enter-2.ensures ∙ ap (enter g) c.enter.ensures) c.args.text.now c.len-before.result c.in-ok-rest.rest high (both_read w.1 w.2.0.is w.2.1.is) c.in-ok-rest.ensures c.in-err-body.ensures)
+    let q = err_from_is_err_and c.from_residual-in_err-body.result c.from_residual-in_err-body.ensures.1 in
+    rw (q.1, q.2) (let_stopped c.args.at c.args.program.now c.args.scope.now c.declare-2.new.scope f g (c.declare-2.ensures ∙ ap (declare g) c.declare.ensures) c.in_ok-first.rest.now c.in_ok-pair.ensures c.enter-2.new.scope (c.enter-2.ensures ∙ ap (enter g) c.enter.ensures) c.args.text.now c.len-before.result c.in_ok-rest.rest high (both_read w.1 w.2.0.is w.2.1.is) c.in_ok-rest.ensures c.in_err-body.ensures)
 
-pub let-in-returns : goal.let-in-returns
-let-in-returns t c =
-    let f = binder_at c.in-ok-first.first in
-    let g = binder_at c.in-ok-first.second in
-    let w = c.in-ok-first.ensures in
+pub let_in-returns : goal.let_in-returns
+let_in-returns t c =
+    let f = binder_at c.in_ok-first.first in
+    let g = binder_at c.in_ok-first.second in
+    let w = c.in_ok-first.ensures in
     let S₃ = c.term.new.scope in
     let high : c.len-before.result ≡ length (names_of S₃).force = omega (arith, c.len-before.ensures, S₃.in_force.ok.0, force_count S₃) in
-    let_follows c.args.at c.args.program.now c.args.scope.now c.declare-2.new.scope f g (c.declare-2.ensures ∙ ap (declare g) c.declare.ensures) c.in-ok-first.rest.now c.in-ok-pair.ensures c.enter-2.new.scope (c.enter-2.ensures ∙ ap (enter g) c.enter.ensures) c.args.text.now c.len-before.result c.in-ok-rest.rest high (both_read w.1 w.2.0.is w.2.1.is) c.in-ok-rest.ensures c.in-ok-body.ensures c.put.ensures
+    let_follows c.args.at c.args.program.now c.args.scope.now c.declare-2.new.scope f g (c.declare-2.ensures ∙ ap (declare g) c.declare.ensures) c.in_ok-first.rest.now c.in_ok-pair.ensures c.enter-2.new.scope (c.enter-2.ensures ∙ ap (enter g) c.enter.ensures) c.args.text.now c.len-before.result c.in_ok-rest.rest high (both_read w.1 w.2.0.is w.2.1.is) c.in_ok-rest.ensures c.in_ok-body.ensures c.put.ensures

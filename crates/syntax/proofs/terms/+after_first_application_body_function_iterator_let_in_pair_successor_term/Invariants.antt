@@ -7,8 +7,8 @@ decreases-body l = 4 * (128 - (l.at.depth + 1)) + 3
 abbrev pub decreases-term : goal.decreases-term
 decreases-term l = 4 * (128 - l.depth) + 2
 
-abbrev pub decreases-after-first : goal.decreases-after-first
-decreases-after-first l = 4 * (128 - l.at.depth) + 1
+abbrev pub decreases-after_first : goal.decreases-after_first
+decreases-after_first l = 4 * (128 - l.at.depth) + 1
 
 abbrev pub decreases-successor : goal.decreases-successor
 decreases-successor l = 4 * (128 - l.at.depth)
@@ -22,8 +22,8 @@ decreases-application l = 4 * (128 - l.at.depth)
 abbrev pub decreases-pair : goal.decreases-pair
 decreases-pair l = 4 * (128 - l.at.depth)
 
-abbrev pub decreases-let-in : goal.decreases-let-in
-decreases-let-in l = 4 * (128 - l.at.depth)
+abbrev pub decreases-let_in : goal.decreases-let_in
+decreases-let_in l = 4 * (128 - l.at.depth)
 
 abbrev pub decreases-iterator : goal.decreases-iterator
 decreases-iterator l = 4 * (128 - l.at.depth)

@@ -5,13 +5,13 @@ use Rattle.syntax.specs.Signs.{lex}
 use Rattle.syntax.specs.Parse.{got, refused}
 use Rattle.syntax.proofs.TypeSteps.{joint_here, joint_other}
 use Rattle.syntax.proofs.types.joint.Goals as goal
-use Rattle.syntax.proofs.types.joint.Goals.{in-default-via-then-rest-lt1, in-default-via-else-rest-lt1+in-default·, in-62, in-42}
+use Rattle.syntax.proofs.types.joint.Goals.{in_default-via-then-rest-lt1, in_default-via-else-rest-lt1+in_default-1, in-62, in-42}
 
-pub returns-in-default : goal.returns-in-default
-returns-in-default c =
+pub returns-in_default : goal.returns-in_default
+returns-in_default c =
     let rest = c.skip-rest.result.now in
     let none : 1 ≤ length rest → (get_or rest 0 0 ≡ 62 → ⊥) × (get_or rest 0 0 ≡ 42 → ⊥) =
-    λ h. elim c.in-default.branch [ in-default-via-then-rest-lt1 w ↦ absurd (search rules) | in-default-via-else-rest-lt1+in-default· w ↦ (λ x. search rules, λ x. search rules) ] in
+    λ h. elim c.in_default.branch [ in_default-via-then-rest-lt1 w ↦ absurd (search rules) | in_default-via-else-rest-lt1+in_default-1 w ↦ (λ x. search rules, λ x. search rules) ] in
     joint_other c.args.end c.args.text.now rest c.skip-rest.ensures c.args.count none ∙ ap refused (sym c.wrong_sign.ensures)
 
 pub returns-then-count-ge-SIGNS : goal.returns-then-count-ge-SIGNS
