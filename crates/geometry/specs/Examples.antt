@@ -24,7 +24,10 @@ next_of_three = succ (num 3)
 
 abbrev pub net_next_of_three : List Node
 net_next_of_three =
-    node₁ Root 0 4 ∷ node₂ Successor 0 6 0 ∷ node₁ Number 3 3 ∷ []
+    node₁ Root 0 4
+    ∷ (node₂ Successor 0 6 0
+    ∷ (node₁ Number 3 3
+    ∷ []))
 
 -- (\x:N.S x 3)
 abbrev pub applied : Term
@@ -32,8 +35,12 @@ applied = app (lam 0 N (succ (var 0))) (num 3)
 
 abbrev pub net_applied : List Node
 net_applied =
-    node₁ Root 0 4 ∷ node₃ Multiplexer 6 0 12 ∷ node₃ Multiplexer 3 10 9 ∷ node₂ Successor 0 8 7
-    ∷ node₁ Number 3 5 ∷ []
+    node₁ Root 0 4
+    ∷ (node₃ Multiplexer 6 0 12
+    ∷ (node₃ Multiplexer 3 10 9
+    ∷ (node₂ Successor 0 8 7
+    ∷ (node₁ Number 3 5
+    ∷ []))))
 
 -- let <x,y> = <\z:N.z,7> in (x y)
 abbrev pub taken_apart : Term
@@ -41,8 +48,13 @@ taken_apart = split 0 1 (pair (lam 2 N (var 2)) (num 7)) (app (var 0) (var 1))
 
 abbrev pub net_taken_apart : List Node
 net_taken_apart =
-    node₁ Root 0 16 ∷ node₃ Multiplexer 6 15 17 ∷ node₃ Multiplexer 3 9 12 ∷ node₃ Multiplexer 7 11 10
-    ∷ node₁ Number 7 8 ∷ node₃ Multiplexer 4 0 5 ∷ []
+    node₁ Root 0 16
+    ∷ (node₃ Multiplexer 6 15 17
+    ∷ (node₃ Multiplexer 3 9 12
+    ∷ (node₃ Multiplexer 7 11 10
+    ∷ (node₁ Number 7 8
+    ∷ (node₃ Multiplexer 4 0 5
+    ∷ [])))))
 
 -- iter 2 \x:N.S x 3
 abbrev pub repeated : Term
@@ -50,9 +62,16 @@ repeated = iter (num 2) (lam 0 N (succ (var 0))) (num 3)
 
 abbrev pub net_repeated : List Node
 net_repeated =
-    node₁ Root 0 4 ∷ node₃ Iterator 15 0 7 ∷ node₃ LeftCounter 9 5 14 ∷ node₃ RightCounter 6 24 13
-    ∷ node₃ Multiplexer 18 11 8 ∷ node₁ Number 2 3 ∷ node₃ Multiplexer 12 22 21 ∷ node₂ Successor 0 20 19
-    ∷ node₁ Number 3 10 ∷ []
+    node₁ Root 0 4
+    ∷ (node₃ Iterator 15 0 7
+    ∷ (node₃ LeftCounter 9 5 14
+    ∷ (node₃ RightCounter 6 24 13
+    ∷ (node₃ Multiplexer 18 11 8
+    ∷ (node₁ Number 2 3
+    ∷ (node₃ Multiplexer 12 22 21
+    ∷ (node₂ Successor 0 20 19
+    ∷ (node₁ Number 3 10
+    ∷ []))))))))
 
 -- ((\f:(N>N).\a:N.iter 1 \y:N.iter 2 f y a \x:N.S x) 5): the wire of f passes two Transfer nodes, those of y and a one
 abbrev pub nested : Term
@@ -60,12 +79,30 @@ nested = app (app (lam 0 (N ⇒ N) (lam 1 N (iter (num 1) (lam 2 N (iter (num 2)
 
 abbrev pub net_nested : List Node
 net_nested =
-    node₁ Root 0 4 ∷ node₃ Multiplexer 7 0 66 ∷ node₃ Multiplexer 9 3 60 ∷ node₃ Multiplexer 6 12 54
-    ∷ node₃ Multiplexer 10 16 57 ∷ node₃ Iterator 27 13 19 ∷ node₃ LeftCounter 21 17 26 ∷ node₃ RightCounter 18 58 25
-    ∷ node₃ Multiplexer 30 23 20 ∷ node₁ Number 1 15 ∷ node₃ Multiplexer 24 34 51 ∷ node₃ Iterator 45 31 37
-    ∷ node₃ LeftCounter 39 35 44 ∷ node₃ RightCounter 36 52 43 ∷ node₃ Multiplexer 49 41 38 ∷ node₁ Number 2 33
-    ∷ node₂ Transfer 2 55 42 ∷ node₂ Transfer 2 32 40 ∷ node₂ Transfer 1 11 48 ∷ node₂ Transfer 1 14 22
-    ∷ node₃ Multiplexer 8 64 63 ∷ node₂ Successor 0 62 61 ∷ node₁ Number 5 5 ∷ []
+    node₁ Root 0 4
+    ∷ (node₃ Multiplexer 7 0 66
+    ∷ (node₃ Multiplexer 9 3 60
+    ∷ (node₃ Multiplexer 6 12 54
+    ∷ (node₃ Multiplexer 10 16 57
+    ∷ (node₃ Iterator 27 13 19
+    ∷ (node₃ LeftCounter 21 17 26
+    ∷ (node₃ RightCounter 18 58 25
+    ∷ (node₃ Multiplexer 30 23 20
+    ∷ (node₁ Number 1 15
+    ∷ (node₃ Multiplexer 24 34 51
+    ∷ (node₃ Iterator 45 31 37
+    ∷ (node₃ LeftCounter 39 35 44
+    ∷ (node₃ RightCounter 36 52 43
+    ∷ (node₃ Multiplexer 49 41 38
+    ∷ (node₁ Number 2 33
+    ∷ (node₂ Transfer 2 55 42
+    ∷ (node₂ Transfer 2 32 40
+    ∷ (node₂ Transfer 1 11 48
+    ∷ (node₂ Transfer 1 14 22
+    ∷ (node₃ Multiplexer 8 64 63
+    ∷ (node₂ Successor 0 62 61
+    ∷ (node₁ Number 5 5
+    ∷ []))))))))))))))))))))))
 
 -- their networks are these
 pub record WrittenOut : Type 0 where

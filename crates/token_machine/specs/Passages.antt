@@ -19,13 +19,11 @@ use Rattle.token.specs.declared.memory.DataCell.TheVariants as dat
 use Rattle.token.specs.Table.{pair_on, count_of, kept_of}
 use Rattle.token_machine.specs.declared.passages.Passage.{Passage}
 
--- what a step sees of the stacks: their tops, of i and d with the cell below, and the top of the shelf that the node's value names
+-- the tops of the stacks, of i and d with the cell below, and the top of the shelf that the node's value names
 pub record Tops : Type 0 where
   pub letter : Option Letter
-  pub iter : Option IterCell
-  pub under_iter : Option IterCell
-  pub datum : Option DataCell
-  pub under_datum : Option DataCell
+  pub iters : Option IterCell × Option IterCell
+  pub datas : Option DataCell × Option DataCell
   pub shelved : Option IterCell
 
 abbrev pub passing : Edit Letter → Edit IterCell → Edit DataCell → Edit IterCell → Port → Passage
@@ -105,10 +103,10 @@ at_transfer v p i s = cond (nat_le 1 v && nat_le v 64) (on_shelf p i s) (Err NoR
 
 abbrev pub through : Kind → ℕ → Port → Tops → Result Passage Reason
 through kind.Root v p t = Err NoRow
-through kind.Number v p t = at_number v p t.datum
-through kind.Successor v p t = at_successor p t.datum t.under_datum
+through kind.Number v p t = at_number v p t.datas.0
+through kind.Successor v p t = at_successor p t.datas.0 t.datas.1
 through kind.Multiplexer v p t = at_multiplexer p t.letter
-through kind.Iterator v p t = at_iterator p t.iter t.datum
-through kind.LeftCounter v p t = at_counter side.Left p t.iter
-through kind.RightCounter v p t = at_counter side.Right p t.iter
-through kind.Transfer v p t = at_transfer v p t.iter t.shelved
+through kind.Iterator v p t = at_iterator p t.iters.0 t.datas.0
+through kind.LeftCounter v p t = at_counter side.Left p t.iters.0
+through kind.RightCounter v p t = at_counter side.Right p t.iters.0
+through kind.Transfer v p t = at_transfer v p t.iters.0 t.shelved

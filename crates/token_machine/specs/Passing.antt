@@ -40,10 +40,8 @@ passed j m s = record {
 abbrev pub tops_of : (j : ℕ) → Stacks → Tops
 tops_of j s = record {
   letter = top_of s.letters;
-  iter = top_of s.iters;
-  under_iter = top_of (rest_of s.iters);
-  datum = top_of s.datas;
-  under_datum = top_of (rest_of s.datas);
+  iters = (top_of s.iters, top_of (rest_of s.iters));
+  datas = (top_of s.datas, top_of (rest_of s.datas));
   shelved = top_of (shelf j s.shelves);
 }
 
@@ -59,10 +57,10 @@ LowIter (Some (iter.Number a)) = a ≤ largest
 LowIter (Some (iter.Pair a b)) = (a ≤ largest) × (b ≤ largest)
 
 pub record LowTops (t : Tops) : Type 0 where
-  pub iter : LowIter t.iter
-  pub under_iter : LowIter t.under_iter
-  pub datum : LowData t.datum
-  pub under_datum : LowData t.under_datum
+  pub iter : LowIter t.iters.0
+  pub under_iter : LowIter t.iters.1
+  pub datum : LowData t.datas.0
+  pub under_datum : LowData t.datas.1
   pub shelved : LowIter t.shelved
 
 -- the passage m, at a node of value v, does what the row that applies does
