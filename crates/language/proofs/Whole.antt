@@ -1,5 +1,5 @@
 -- A whole program: from its tree in memory to the answer of the questions on types.
-use Rattle.std.proofs.Common.{◌≡◌, ℕ, ◌+◌, ◌<◌, ◌≤◌, true, false, cond, leb, List, [], ◌∷◌, ◌++◌, length, Ok, Err, sym, refl, ap, ◌∙◌, subst, arith, length-append}
+use Rattle.std.proofs.Common.{◌≡◌, ℕ, ◌+◌, ◌<◌, ◌≤◌, true, false, cond, leb, List, [], ◌∷◌, ◌++◌, length, Ok, Err, Result, sym, refl, ap, ◌∙◌, subst, arith, length-append}
 use Rattle.std.proofs.lemmas.List.{get_or_push}
 use Rattle.std.proofs.lemmas.Bool.Decides.{nat_tests}
 use Rattle.calculus.specs.Types.{Ty, N, ◌⇒◌, ◌⊗◌}
@@ -20,7 +20,7 @@ use Rattle.language.specs.Infer.{good, infer}
 use Rattle.language.specs.Measures.{IsType}
 use Rattle.language.specs.Judgements.{Judgement, judgements, type_of, nobody, Low}
 use Rattle.language.specs.Checks.{cells_of, typings_of, context_of, Knows, Lists, Ready, Typed, Checks}
-use Rattle.language.specs.Counts.{Countable, Counts}
+use Rattle.language.specs.Counts.{Countable, Counts, Limited}
 use Rattle.language.specs.Accepts.{Numbers, numbered, accepts, Known, Holds, Given, Concludes, Leaves}
 use Rattle.language.proofs.Shapes.{tree_more, spans_more, spans_count, there}
 use Rattle.language.proofs.Walk.{trees_last, lists_length}
@@ -111,13 +111,10 @@ module _ (subs : List Subterm) (cells : List TypeCell) (root : ℕ) (m : Checker
           weight = k.weight;
         }
 
-    -- the program's type is N, and f has its counts
-    module _ (q : (A : Ty) → DenotesType (cells_of m') c A → A ≡ N) (f : Facts) (counts : (js : List Judgement) → Lists subs (cells_of m') (typings_of m') js → Low js → Counts js f) where
+    -- the program's type is N, and r has its counts or says that its iterators are many
+    module _ (q : (A : Ty) → DenotesType (cells_of m') c A → A ≡ N) where
       is : (t : Tree ℕ) → Denotes subs cells root t → infer nobody t ≡ good N
       is t d = let w = typed t d in w.infers ∙ ap good (q (type_of nobody t) w.denotes)
-
-      counted : (t : Tree ℕ) → Denotes subs cells root t → Counts (judgements nobody t) f
-      counted t d = counts (judgements nobody t) (all_lists t d) (low t d)
 
       spans_last : (t : Tree ℕ) → Denotes subs cells root t → Spans subs cells 0 root t → Spans subs (cells_of m') 0 root t
       spans_last t d sp =
@@ -125,15 +122,16 @@ module _ (subs : List Subterm) (cells : List TypeCell) (root : ℕ) (m : Checker
           let begun : Spans subs (cells_of m) 0 root t = subst (λ cs. Spans subs cs 0 root t) (sym b.types) (spans_more t subs cells (kind.N ∷ []) 0 root sp) in
           subst (λ cs. Spans subs cs 0 root t) (sym g.cells) (spans_more t subs (cells_of m) g.more 0 root begun)
 
-      pub whole_done : f.iterators ≤ 64 → (t : Tree ℕ) → Denotes subs cells root t → Spans subs cells 0 root t → Concludes subs root t (cells_of m') (typings_of m') (Ok f)
-      whole_done le t d sp =
-          let few : leb (iterators (erase t)) 64 ≡ true = let n = iterators-counted nobody t in let k = (counted t d).iterators in grind (arith, nat_tests) in
-          (ap (numbered t) (is t d) ∙ ap (λ v. cond v (Ok t) (Err (fault ManyIterators 0))) few, record { denotes = trees_last (typed t d).grown subs t root (at_begin t d); spans = spans_last t d sp; types = all_lists t d; facts = known t f (counted t d) })
-
-      pub whole_many : (z : Refusal) → (z ≡ fault ManyIterators 0) × (64 < f.iterators) → (t : Tree ℕ) → Denotes subs cells root t → Spans subs cells 0 root t → numbered t (infer nobody t) ≡ Err z
-      whole_many z x t d sp =
-          let many : leb (iterators (erase t)) 64 ≡ false = let n = iterators-counted nobody t in let k = (counted t d).iterators in let lt = x.1 in grind (arith, nat_tests) in
-          ap (numbered t) (is t d) ∙ (ap (λ v. cond v (Ok t) (Err (fault ManyIterators 0))) many ∙ ap Err (sym x.0))
+      pub whole_done : (r : Result Facts Refusal) → ((js : List Judgement) → Lists subs (cells_of m') (typings_of m') js → Low js → Limited js r) → (t : Tree ℕ) → Denotes subs cells root t → Spans subs cells 0 root t → Concludes subs root t (cells_of m') (typings_of m') r
+      whole_done r limited t d sp = by r (limited (judgements nobody t) (all_lists t d) (low t d))
+        where
+          by : (r : Result Facts Refusal) → Limited (judgements nobody t) r → Concludes subs root t (cells_of m') (typings_of m') r
+          by (Ok f) l =
+              let few : leb (iterators (erase t)) 64 ≡ true = let n = iterators-counted nobody t in let le = l.1 in grind (arith, nat_tests) in
+              (ap (numbered t) (is t d) ∙ ap (λ v. cond v (Ok t) (Err (fault ManyIterators 0))) few, record { denotes = trees_last (typed t d).grown subs t root (at_begin t d); spans = spans_last t d sp; types = all_lists t d; facts = known t f l.0 })
+          by (Err x) l =
+              let many : leb (iterators (erase t)) 64 ≡ false = let n = iterators-counted nobody t in let lt = l.1 in grind (arith, nat_tests) in
+              ap (numbered t) (is t d) ∙ (ap (λ v. cond v (Ok t) (Err (fault ManyIterators 0))) many ∙ ap Err (sym l.0))
 
 -- a text that is read is in memory as the checker asks
 pub read_given : (bytes : List ℕ) (subs : List Subterm) (cells : List TypeCell) (root : ℕ) → Accepted bytes subs cells root → Given subs cells root

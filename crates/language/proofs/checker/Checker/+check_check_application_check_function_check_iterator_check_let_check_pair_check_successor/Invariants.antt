@@ -4,20 +4,20 @@ use Rattle.language.proofs.checker.Checker.+check_check_application_check_functi
 abbrev pub decreases-check : goal.decreases-check
 decreases-check l = 2 * l.i + 1
 
-abbrev pub decreases-check-successor : goal.decreases-check-successor
-decreases-check-successor l = 2 * l.i
+abbrev pub decreases-check_successor : goal.decreases-check_successor
+decreases-check_successor l = 2 * l.i
 
-abbrev pub decreases-check-function : goal.decreases-check-function
-decreases-check-function l = 2 * l.i
+abbrev pub decreases-check_function : goal.decreases-check_function
+decreases-check_function l = 2 * l.i
 
-abbrev pub decreases-check-application : goal.decreases-check-application
-decreases-check-application l = 2 * l.i
+abbrev pub decreases-check_application : goal.decreases-check_application
+decreases-check_application l = 2 * l.i
 
-abbrev pub decreases-check-pair : goal.decreases-check-pair
-decreases-check-pair l = 2 * l.i
+abbrev pub decreases-check_pair : goal.decreases-check_pair
+decreases-check_pair l = 2 * l.i
 
-abbrev pub decreases-check-let : goal.decreases-check-let
-decreases-check-let l = 2 * l.i
+abbrev pub decreases-check_let : goal.decreases-check_let
+decreases-check_let l = 2 * l.i
 
-abbrev pub decreases-check-iterator : goal.decreases-check-iterator
-decreases-check-iterator l = 2 * l.i
+abbrev pub decreases-check_iterator : goal.decreases-check_iterator
+decreases-check_iterator l = 2 * l.i

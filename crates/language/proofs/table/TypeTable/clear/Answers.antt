@@ -2,5 +2,5 @@ use Rattle.std.proofs.Common.{rules}
 use Rattle.language.proofs.Cells.{nothing}
 use Rattle.language.proofs.table.TypeTable.clear.Goals as goal
 
-pub invariant-of-self : goal.invariant-of-self
-invariant-of-self c = (search rules, (search rules, (search rules, (λ k A d. absurd (nothing _ c.clear.ensures.items k A d), (λ k A d. absurd (nothing _ c.clear.ensures.items k A d), tt)))))
+pub invariant_of-self : goal.invariant_of-self
+invariant_of-self c = record { cells_fit = search rules; measures_fit = search rules; long = search rules; heights = λ k A d. absurd (nothing _ c.clear.ensures.items k A d); counts = λ k A d. absurd (nothing _ c.clear.ensures.items k A d) }
