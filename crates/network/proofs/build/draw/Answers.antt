@@ -17,7 +17,7 @@ pub returns : goal.returns
 returns c =
     record {
       drawn = (λ t d.
-          (let l = laid_all t _ _ _ _ c.lay-node.ensures (c.lay.ensures t d.holds) in
+          (let l = laid_all t _ _ _ _ c.lay_node.ensures (c.lay.ensures t d.holds) in
           drawn_all t _ _ _ _ _ _ d.typed l (c.wire.ensures.wired t (wirable_all _ _ _ _ _ _ d (omega arith)))));
       room = c.wire.ensures.room;
     }

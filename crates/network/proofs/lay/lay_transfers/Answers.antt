@@ -10,4 +10,4 @@ loop-k-preserved c =
     let e = c.args.next.node + c.args.uses in
     let m : Made = (Transfer, c.args.iterator) in
     let k = c.loop-k.k in
-    ap (laid (replicate (e - (k + 1)) m) (k + 1)) c.lay-node.ensures ∙ (transfers_more m c.args.uses e k c.loop-k.cells (omega arith) ∙ c.loop-k.invariant)
+    ap (laid (replicate (e - (k + 1)) m) (k + 1)) c.lay_node.ensures ∙ (transfers_more m c.args.uses e k c.loop-k.cells (omega arith) ∙ c.loop-k.invariant)

@@ -25,6 +25,6 @@ loop-i-preserved c =
     let p = vec_items c.loop-i.parts in
     let m = planned_more c.args.subs.now p c.loop-i.invariant.0 s blank (rw n refl) in
     let v = c.deref.ensures.value in
-    let k = c.count-of-count.ensures ∙ ap (λ q. count_of q s.shape) v in
-    let e = c.push-reserved.ensures.items ∙ ap (λ q. p ++ (record { shape = s.shape; count = q } ∷ [])) k in
-    (subst (Planned c.args.subs.now) (sym e) m, length_push p _ _ c.push-reserved.ensures.items ∙ omega (arith, n), c.push-reserved.ensures.capacity ∙ c.loop-i.invariant.2)
+    let k = c.count_of-count.ensures ∙ ap (λ q. count_of q s.shape) v in
+    let e = c.push_reserved.ensures.items ∙ ap (λ q. p ++ (record { shape = s.shape; count = q } ∷ [])) k in
+    (subst (Planned c.args.subs.now) (sym e) m, length_push p _ _ c.push_reserved.ensures.items ∙ omega (arith, n), c.push_reserved.ensures.capacity ∙ c.loop-i.invariant.2)

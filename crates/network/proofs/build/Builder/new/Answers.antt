@@ -2,8 +2,8 @@ use Rattle.std.proofs.Common.{refl, rules}
 use Rattle.std.proofs.lemmas.Result.{IfOk-from_err}
 use Rattle.network.proofs.build.Builder.new.Goals as goal
 
-pub returns-in-err-uses : goal.returns-in-err-uses
-returns-in-err-uses c = IfOk-from_err c.from-residual-in-err-uses.result _ c.from-residual-in-err-uses.ensures.0
+pub returns-in_err-uses : goal.returns-in_err-uses
+returns-in_err-uses c = IfOk-from_err c.from_residual-in_err-uses.result _ c.from_residual-in_err-uses.ensures.0
 
 pub returns : goal.returns
-returns c = (search rules, c.in-ok-starts.ensures.items-if-clones-equal (λ y e. search rules), search rules)
+returns c = (search rules, c.in_ok-starts.ensures.items_if_clones_equal (λ y e. search rules), search rules)
