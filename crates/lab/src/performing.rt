@@ -15,8 +15,8 @@ pub fn perform<M: Readable>(
     calls: &[Call<M::Query>],
     heap: Global,
 ) -> Result<Vec<Answer<M::Reply>>, AllocError>
-    ensures performed { MatchResult result (λ v. Performed M.Machine.next M.Machine.turned (Reads M.Machine.state reading) (place (M.Machine.state walk.old.machine) walk.old.sum.value) calls.now (map (meant told) v.items) (place (M.Machine.state walk.new.machine) walk.new.sum.value)) (λ _. walk.new ≡ walk.old) }
-    ensures whole { WholeWalks M.Machine.next M.Machine.turned (Reads M.Machine.state reading) }
+    ensures performed { MatchResult result (λ v. Performed M.Machine.next M.Machine.turned (Reads M.Machine.state M.reading) (place (M.Machine.state walk.old.machine) walk.old.sum.value) calls.now (map (meant M.told) v.items) (place (M.Machine.state walk.new.machine) walk.new.sum.value)) (λ _. walk.new ≡ walk.old) }
+    ensures whole { WholeWalks M.Machine.next M.Machine.turned (Reads M.Machine.state M.reading) }
 {
     runs::perform(walk, calls, heap)
 }

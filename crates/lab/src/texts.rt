@@ -5,7 +5,7 @@ use writer::{Text, Writer};
 
 // Writes a text to the front of the buffer and returns its length; or leaves the buffer as it was.
 pub fn show_text<T: Text>(content: &T, buf: &mut [u8]) -> Result<usize, Reason>
-    ensures { Shown (text content.now) buf.old buf.new result }
+    ensures { Shown (T.text content.now) buf.old buf.new result }
 {
     let mut measure = Writer {
         buf: &mut [],

@@ -10,4 +10,4 @@ returns c =
     let before = c.args.walk.now in
     let after = c.forward-why.new.self in
     let last = outcome_shown (place (state_of before.machine) before.sum.value) (place (state_of after.machine) after.sum.value) c.forward-why.result c.forward-why.ensures in
-    subst (λ (l : List ℕ). Shown l c.args.buf.now c.show-end.new.buf c.show-end.result) (sym last) c.show-end.ensures
+    subst (λ (l : List ℕ). Shown l c.args.buf.now c.show_end.new.buf c.show_end.result) (sym last) c.show_end.ensures

@@ -22,7 +22,7 @@ returns-in-Ok c =
           (subst (λ (cs : List Cell). Built text m.cells.now cs (Ok c.in-Ok.field-0)) (sym same) c.in-Ok.ensures)
           (ap length same ∙ long)
           (c.open.ensures.state ∙ ap (λ (cs : List Cell). opened (nodes_of cs) (rooms_in m) c.args.first) (sym same));
-      exact = (c.texts-accepted-exactly.ensures.exactly, c.texts-accepted-exactly.ensures.rejected);
+      exact = (c.texts_accepted_exactly.ensures.exactly, c.texts_accepted_exactly.ensures.rejected);
       whole = whole_walks token_run_law;
     }
 
@@ -31,6 +31,6 @@ returns-in-Err c =
     let refused = c.in-Err.ensures in
     record {
       opened = (refused.0, record { cells = refused.1; letters = refl; iters = refl; shelves = refl; datas = refl });
-      exact = (c.texts-accepted-exactly.ensures.exactly, c.texts-accepted-exactly.ensures.rejected);
+      exact = (c.texts_accepted_exactly.ensures.exactly, c.texts_accepted_exactly.ensures.rejected);
       whole = whole_walks token_run_law;
     }

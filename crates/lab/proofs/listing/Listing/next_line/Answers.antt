@@ -10,24 +10,24 @@ use Rattle.lab.proofs.listing.Listing.next_line.Goals as goal
 abbrev at : Listing → Place State
 at l = place (state_of l.walk.machine) l.walk.sum.value
 
-pub returns-in-err-length : goal.returns-in-err-length
-returns-in-err-length c =
+pub returns-in_err-length-in-Lines : goal.returns-in_err-length-in-Lines
+returns-in_err-length-in-Lines c =
     let l = c.args.self.now in
-    let e = err_from_is_err_and c.from-residual.result c.from-residual.ensures.1 in
-    line_too_long l.stage (at l) c.args.buf.now c.show.new.buf c.in-Lines.left c.in-err-length.field-0.0 c.from-residual.result c.in-Lines.is (e.1 ∙ ap Err e.2) c.in-err-length.ensures
+    let e = err_from_is_err_and c.from_residual.result c.from_residual.ensures.1 in
+    line_too_long l.stage (at l) c.args.buf.now c.show.new.buf c.in-Lines.left c.in_err-length-in-Lines.field-0.0 c.from_residual.result c.in-Lines.is (e.1 ∙ ap Err e.2) c.in_err-length-in-Lines.ensures
 
-pub returns-in-err-length-2 : goal.returns-in-err-length-2
-returns-in-err-length-2 c =
+pub returns-in_err-length-in-End : goal.returns-in_err-length-in-End
+returns-in_err-length-in-End c =
     let l = c.args.self.now in
-    let e = err_from_is_err_and c.from-residual-in-err-length-2.result c.from-residual-in-err-length-2.ensures.1 in
-    end_too_long l.stage (at l) c.args.buf.now c.show-end.new.buf c.in-End.why c.in-err-length-2.field-0.0 c.from-residual-in-err-length-2.result c.in-End.is (e.1 ∙ ap Err e.2) c.in-err-length-2.ensures
+    let e = err_from_is_err_and c.from_residual-in_err-length-in-End.result c.from_residual-in_err-length-in-End.ensures.1 in
+    end_too_long l.stage (at l) c.args.buf.now c.show_end.new.buf c.in-End.why c.in_err-length-in-End.field-0.0 c.from_residual-in_err-length-in-End.result c.in-End.is (e.1 ∙ ap Err e.2) c.in_err-length-in-End.ensures
 
-pub returns-in-ok-length : goal.returns-in-ok-length
-returns-in-ok-length c =
+pub returns-in_ok-length-in-Lines : goal.returns-in_ok-length-in-Lines
+returns-in_ok-length-in-Lines c =
     let l = c.args.self.now in
-    line_listed l.stage (at l) c.args.buf.now c.show.new.buf c.in-Lines.left c.in-ok-length.length _ c.in-Lines.is c.advance.ensures c.in-ok-length.ensures
+    line_listed l.stage (at l) c.args.buf.now c.show.new.buf c.in-Lines.left c.in_ok-length-in-Lines.length _ c.in-Lines.is c.advance.ensures c.in_ok-length-in-Lines.ensures
 
-pub returns-in-ok-length-2 : goal.returns-in-ok-length-2
-returns-in-ok-length-2 c =
+pub returns-in_ok-length-in-End : goal.returns-in_ok-length-in-End
+returns-in_ok-length-in-End c =
     let l = c.args.self.now in
-    end_listed l.stage (at l) c.args.buf.now c.show-end.new.buf c.in-End.why c.in-ok-length-2.length c.in-End.is c.in-ok-length-2.ensures
+    end_listed l.stage (at l) c.args.buf.now c.show_end.new.buf c.in-End.why c.in_ok-length-in-End.length c.in-End.is c.in_ok-length-in-End.ensures
