@@ -60,10 +60,10 @@ impl Readable for Addition {
     }
 }
 
-// The query of a machine that tells nothing: whoever asks it gets an empty reply.
+// The query of a machine that is not read: its field is private, so no other crate can make one, and none is made here.
 #[derive(Drop)]
-pub enum NoQuery {
-    Nothing,
+pub struct NoQuery {
+    unmade: (),
 }
 
 impl<M: Machine> Readable for Stride<M> {

@@ -25,6 +25,6 @@ pub returns : goal.returns
 returns c =
     let new = c.new-walk.result in
     let gone = c.forward-grant.new.self in
-    let home = c.bring-back.new.self in
+    let home = c.bring_back.new.self in
     let opened : at new.machine new.sum.value ≡ opening (strided (counted c.args.k) (rung c.args.ladder.height c.args.ladder.upward)) = rw (c.new-walk.ensures.0, c.new-walk.ensures.1, c.new.ensures.0, c.new.ensures.1) refl in
-    tried c.args.k c.args.wanted _ _ c.forward-grant.result c.bring-back.result (at new.machine new.sum.value) (at gone.machine gone.sum.value) (at home.machine home.sum.value) c.probe-start.result.sum.value opened (c.probe-start.ensures ∙ c.new-walk.ensures.1) c.forward-grant.ensures c.bring-back.ensures (ap (λ (m : Ladder). rung m.height m.upward) (c.into-below.ensures ∙ ap (λ (m : Stride Ladder). m.below) c.into-machine.ensures))
+    tried c.args.k c.args.wanted _ _ c.forward-grant.result c.bring_back.result (at new.machine new.sum.value) (at gone.machine gone.sum.value) (at home.machine home.sum.value) c.probe-start.result.sum.value opened (c.probe-start.ensures ∙ c.new-walk.ensures.1) c.forward-grant.ensures c.bring_back.ensures (ap (λ (m : Ladder). rung m.height m.upward) (c.into_below.ensures ∙ ap (λ (m : Stride Ladder). m.below) c.into_machine.ensures))
