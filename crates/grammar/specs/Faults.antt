@@ -1,5 +1,5 @@
 -- The first sub-term without a type, or with one that is too high: parts before wholes, left before right. Assumes nothing.
-use Rattle.std.specs.Prelude.{◌≡◌, ℕ, ◌<◌, ◌≢◌}
+use Rattle.std.specs.Prelude.{ℕ, ◌<◌, ◌≢◌}
 use Rattle.calculus.specs.Types.{Ty, ◌⊗◌, height}
 use Rattle.calculus.specs.Terms.{free}
 use Rattle.calculus.specs.Typing.{Typed}

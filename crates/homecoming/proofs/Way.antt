@@ -2,7 +2,7 @@
 use Rattle.std.proofs.Common.{◌≡◌, ℕ, zero, suc, ◌+◌, ◌*◌, ◌/◌, ◌≤◌, Bool, true, false, cond, eqb, List, [], ◌∷◌, length, sym, refl, ap, ◌∙◌, subst, ap₂, arith}
 use Rattle.std.proofs.lemmas.Bool.Decides.{nat_tests}
 use Rattle.cells.specs.declared.kinds.Kind.TheVariants.{Number, Successor}
-use Rattle.cells.specs.Ports.{Node, node_at, link, linked}
+use Rattle.cells.specs.Ports.{Node, node_at, link}
 use Rattle.geometry.specs.Labels.{Label, network_weight, successor_nodes}
 use Rattle.machine.specs.Steps.{to, go}
 use Rattle.machine.specs.Lawful.{go_none}
@@ -14,8 +14,8 @@ use Rattle.homecoming.specs.Home.{Network, Suffices, Home}
 use Rattle.homecoming.proofs.Letters.{asks_height}
 use Rattle.homecoming.proofs.Nodes.{is_kind, is_kind_lem, stacked, deeper, raised}
 use Rattle.homecoming.proofs.Pigeonhole.{bump, count}
-use Rattle.homecoming.proofs.Questions.{Question, few_successor_nodes}
-use Rattle.homecoming.proofs.Orbit.{kind_at, orbit, at, Going, orbit_asks, number_met, passes_successor, few_successors}
+use Rattle.homecoming.proofs.Questions.{few_successor_nodes}
+use Rattle.homecoming.proofs.Orbit.{kind_at, orbit, Going, orbit_asks, number_met, passes_successor, few_successors}
 use Rattle.cells.proofs.Inside.{root_has}
 use Rattle.homecoming.proofs.Ways.{first_step, last_step}
 use Rattle.homecoming.proofs.Crossing.{asking, answering, Room, passes_out, passes_back, turns}

@@ -27,7 +27,7 @@ fn bytes(rt: HostRuntime) -> Result<(), Fail> {
     let input: &[u8] = b"S 3\n";
     match read_text(rt.alloc(), input) {
         Ok(text) => {
-            assert!(rt; text.as_slice() == b"S 3\n");
+            assert!(rt; text.as_slice() == b"S 3\n".as_slice());
             Ok(())
         },
         Err(_) => Err(Fail::new("not read")),

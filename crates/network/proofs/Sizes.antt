@@ -1,5 +1,5 @@
 -- A term has no more free uses than sub-terms, and one of at most 2,048 sub-terms makes few nodes.
-use Rattle.std.proofs.Common.{ℕ, ◌+◌, ◌*◌, ◌≤◌, Bool, true, false, cond, eqb, List, [], ◌∷◌, ◌++◌, length, arith, length-append}
+use Rattle.std.proofs.Common.{ℕ, ◌*◌, ◌≤◌, Bool, true, false, cond, eqb, List, [], ◌∷◌, ◌++◌, length, arith, length-append}
 use Rattle.calculus.specs.Terms.{Term, var, num, succ, lam, app, pair, split, iter, free, without, subterms, nodes}
 
 without-length : (x : ℕ) (xs : List ℕ) → length (without x xs) ≤ length xs

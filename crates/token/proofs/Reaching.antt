@@ -1,6 +1,5 @@
 -- Over sound nodes a token that was opened never finds its ports unlinked.
 use Rattle.std.proofs.Common.{◌≡◌, ℕ, ◌/◌, ◌%◌, ◌<◌, Bool, true, false, cond, not, ◌&&◌, eqb, List, length, Some, None, Option, sym, refl, ap, ◌∙◌, subst, arith}
-use Rattle.cells.specs.declared.kinds.Kind.TheVariants as kind
 use Rattle.cells.specs.Ports.{Node, node_at, arity, offset, place_of, inside, link, linked}
 use Rattle.cells.specs.Sound.{Sound, Has, Below}
 use Rattle.machine.specs.declared.reasons.Reason.{Reason}

@@ -1,7 +1,7 @@
 -- Distances between the question and its answer. Assumes nothing.
 use Rattle.std.specs.Prelude.{◌≡◌, ℕ, true, List, [], ◌∷◌, Some}
 use Rattle.cells.specs.Ports.{Node}
-use Rattle.machine.specs.Steps.{Next, to, go}
+use Rattle.machine.specs.Steps.{to, go}
 use Rattle.token.specs.declared.memory.DataCell.TheVariants.{Question, Number}
 use Rattle.token.specs.State.{Rooms, State, opened, is_home, number_of}
 use Rattle.token.specs.Next.{next}

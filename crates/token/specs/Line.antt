@@ -1,5 +1,5 @@
 -- A token's state and a walk's sum as a line of text. Assumes nothing.
-use Rattle.std.specs.Prelude.{ℕ, List, [], ◌∷◌, ◌++◌, ℤ, codes, decimal}
+use Rattle.std.specs.Prelude.{ℕ, List, ◌++◌, ℤ, codes, decimal}
 use Rattle.std.specs.Fmt.{signed_decimal}
 use Rattle.stack.specs.Shelving.{cells_held}
 use Rattle.token.specs.declared.memory.Letter.{Letter}

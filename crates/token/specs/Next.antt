@@ -2,13 +2,11 @@
 use Rattle.std.specs.Prelude.{ℕ, ◌/◌, Bool, true, false, cond, not, ◌&&◌, leb, List, [], ◌∷◌, length, Some, None, Option, ◌==◌, nat_le}
 use Rattle.cells.specs.declared.kinds.Kind.{Kind}
 use Rattle.cells.specs.declared.kinds.Port.{Port}
-use Rattle.cells.specs.Ports.{Node, kind_number, offset, node_at, place_of, port_at, link, linked}
+use Rattle.cells.specs.Ports.{kind_number, offset, node_at, place_of, port_at, link, linked}
 use Rattle.machine.specs.declared.reasons.Reason.{Reason}
 use Rattle.machine.specs.declared.reasons.Reason.TheVariants.{Home, NoRow, Unlinked, Full, Overflow}
 use Rattle.machine.specs.Steps.{Next, to, ends, then}
 use Rattle.stack.specs.Shelving.{shelf, shelf_room}
-use Rattle.token.specs.declared.memory.IterCell.{IterCell}
-use Rattle.token.specs.declared.memory.DataCell.{DataCell}
 use Rattle.token.specs.Table.{Stacks, Row, table, fits, changed, by_data, by_iter}
 use Rattle.token.specs.State.{Rooms, State}
 

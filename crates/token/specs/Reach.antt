@@ -1,9 +1,9 @@
 -- Tokens reached from an opening, over sound nodes. Assumes nothing.
-use Rattle.std.specs.Prelude.{◌≡◌, ℕ, ◌≤◌, List, length, ◌≢◌}
+use Rattle.std.specs.Prelude.{◌≡◌, ◌≤◌, List, length, ◌≢◌}
 use Rattle.cells.specs.Ports.{Node}
 use Rattle.cells.specs.Sound.{Sound}
 use Rattle.machine.specs.declared.reasons.Reason.TheVariants.{Unlinked}
-use Rattle.machine.specs.Steps.{Next, to, ends}
+use Rattle.machine.specs.Steps.{to, ends}
 use Rattle.token.specs.declared.memory.DataCell.{DataCell}
 use Rattle.token.specs.State.{Rooms, State, opened, turned}
 use Rattle.token.specs.Next.{next}

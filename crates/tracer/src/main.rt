@@ -76,6 +76,6 @@ mod tests {
         let heap = rt.alloc();
         let mut out = Vec::new(heap);
         assert!(rt; trace(&mut out, heap, b"(3 4)").is_ok());
-        assert!(rt; out.as_slice() == b"refused=9 place=0\n");
+        assert!(rt; out.as_slice() == b"refused=9 place=0\n".as_slice());
     }
 }

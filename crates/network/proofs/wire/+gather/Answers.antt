@@ -1,4 +1,4 @@
-use Rattle.std.proofs.Common.{◌+◌, ◌++◌, set, vec_items, sym, refl, ap, ◌∙◌, append-nil, arith, length-set}
+use Rattle.std.proofs.Common.{◌++◌, set, vec_items, sym, refl, ap, ◌∙◌, append-nil, arith, length-set}
 use Rattle.std.proofs.lemmas.Bool.{eq-eqb, ne_eqb}
 use Rattle.cells.specs.Ports.{absent}
 use Rattle.calculus.specs.Terms.{free, without}

@@ -1,5 +1,5 @@
 use Rattle.std.proofs.Common.{◌+◌, ◌*◌, ◌<◌, ◌≤◌, set, sym, refl, ap, ◌∙◌, subst, arith}
-use Rattle.geometry.specs.Network.{l1, l2, l3}
+use Rattle.geometry.specs.Network.{l3}
 use Rattle.network.proofs.Uses.{distinct}
 use Rattle.network.proofs.Moved.{wired-moved}
 use Rattle.network.proofs.Wired.{joinable, wirable_as, own_wires_lem, wired_as, in_succ, in_lam, in_app₁, in_app₂, in_pair₁, in_pair₂, in_split₁, in_split₂, in_iter₁, in_step, in_base, inside, passed_by, passed-moved, wired_variable, wired-number, wired_succ, wired_lam, wired_app, wired_pair, wired_split, wired_iter}
