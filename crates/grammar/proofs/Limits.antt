@@ -5,7 +5,7 @@ use Rattle.calculus.specs.Types.{Ty, N, ◌⇒◌, ◌⊗◌, height, signs}
 use Rattle.syntax.specs.declared.refusal.Fault.{Fault}
 use Rattle.syntax.specs.declared.refusal.Fault.TheVariants.{LargeNumber, PassedLimit}
 use Rattle.syntax.specs.Trees.{Tree, occ, num, succ, lam, app, pair, split, iter}
-use Rattle.syntax.specs.Grammar.{size, type_signs, depth, type_depth, largest as largestNumber, Within}
+use Rattle.syntax.specs.Grammar.{size, type_signs, depth, type_depth, largest as largest_number, Within}
 use Rattle.grammar.specs.Roles.{Role, begins, bracket, connective, plain, type_roles, roles, counted, greatest, largest, Kept, Broken, too_large, passed}
 use Rattle.grammar.proofs.Runs.{Checks, passes, refuses, Leads}
 use Rattle.grammar.proofs.Simulation.{room, limits}
@@ -62,7 +62,7 @@ begun n l a b c d e h = record { terms = omega arith; depths = omega arith; type
 plainly : (l : List Role) (a b c d e : ℕ) → Measures l a b c d e → Measures (plain ∷ l) a b c d e
 plainly l a b c d e h = record { terms = omega arith; depths = omega arith; types = omega arith; type_depths = omega arith; numbers = omega arith }
 
-term_measures : {U : Type 0} (t : Tree U) (d : ℕ) → Term (roles d t) (size t) (depth t) d (type_signs t) (type_depth t) (largestNumber t)
+term_measures : {U : Type 0} (t : Tree U) (d : ℕ) → Term (roles d t) (size t) (depth t) d (type_signs t) (type_depth t) (largest_number t)
 term_measures (occ p x) d = record { deep = d; is = omega arith; all = record { terms = refl; depths = omega arith; types = refl; type_depths = refl; numbers = refl } }
 term_measures (num p n) d = record { deep = d; is = omega arith; all = record { terms = refl; depths = omega arith; types = refl; type_depths = refl; numbers = omega arith } }
 term_measures (succ p t) d =
@@ -89,7 +89,7 @@ term_measures (split p x y t u) d =
     let a = term_measures t (suc d) in
     let b = term_measures u (suc d) in
     let v = appended (roles (suc d) t) (plain ∷ roles (suc d) u) in
-    let m : Measures (roles (suc d) t ++ (plain ∷ roles (suc d) u)) (size t + size u) (max a.deep b.deep) (type_signs t + type_signs u) (max (type_depth t) (type_depth u)) (max (largestNumber t) (largestNumber u)) =
+    let m : Measures (roles (suc d) t ++ (plain ∷ roles (suc d) u)) (size t + size u) (max a.deep b.deep) (type_signs t + type_signs u) (max (type_depth t) (type_depth u)) (max (largest_number t) (largest_number u)) =
     record { terms = omega arith; depths = omega arith; types = omega arith; type_depths = omega arith; numbers = omega arith } in
     let head = plainly _ _ _ _ _ _ (plainly _ _ _ _ _ _ (plainly _ _ _ _ _ _ (plainly _ _ _ _ _ _ (plainly _ _ _ _ _ _ (plainly _ _ _ _ _ _ m))))) in
     record { deep = max d (max a.deep b.deep); is = deepest d _ _ (deeper d _ _ _ _ a.is b.is); all = begun d _ _ _ _ _ _ head }

@@ -123,22 +123,22 @@ table =
     ∷ []
 
 -- by the top of m, of d, of i, and of any stack
-abbrev pub by_letter : {A : Type 0} → (none : A) → (onLeft onRight : List Letter → A) → List Letter → A
+abbrev pub by_letter : {A : Type 0} → (none : A) → (on_left on_right : List Letter → A) → List Letter → A
 by_letter z l r [] = z
 by_letter z l r (Left ∷ ls) = l ls
 by_letter z l r (Right ∷ ls) = r ls
 
-abbrev pub by_data : {A : Type 0} → (none : A) → (onQuestion : List DataCell → A) → (onNumber : ℕ → List DataCell → A) → List DataCell → A
+abbrev pub by_data : {A : Type 0} → (none : A) → (on_question : List DataCell → A) → (on_number : ℕ → List DataCell → A) → List DataCell → A
 by_data z q n [] = z
 by_data z q n (dat.Question ∷ ds) = q ds
 by_data z q n (dat.Number a ∷ ds) = n a ds
 
-abbrev pub by_iter : {A : Type 0} → (none : A) → (onNumber : ℕ → List IterCell → A) → (onPair : ℕ → ℕ → List IterCell → A) → List IterCell → A
+abbrev pub by_iter : {A : Type 0} → (none : A) → (on_number : ℕ → List IterCell → A) → (on_pair : ℕ → ℕ → List IterCell → A) → List IterCell → A
 by_iter z n p [] = z
 by_iter z n p (iter.Number a ∷ cs) = n a cs
 by_iter z n p (iter.Pair a b ∷ cs) = p a b cs
 
-abbrev pub by_top : {A X : Type 0} → (none : A) → (onTop : X → List X → A) → List X → A
+abbrev pub by_top : {A X : Type 0} → (none : A) → (on_top : X → List X → A) → List X → A
 by_top z f [] = z
 by_top z f (x ∷ xs) = f x xs
 
