@@ -5,7 +5,7 @@ usage: python3 tools/respell.py        at the top of a checkout that port.py has
 
 A dash stays where it joins two names (a lemma on one function applied to another) or a fact and a name.
 Names of src/, names that Rattle makes, names of the kit's libraries, strings and comments in prose keep their spelling.
-Prints each name that it turns, and stops where two would fall together.
+Prints each name that it turns, and first the places where two may fall together.
 """
 import collections
 import os

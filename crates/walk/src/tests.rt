@@ -1,4 +1,4 @@
-// What the stored run does not meet: a token opened with a number, a text that is refused, and words that are not known where they stand.
+// What the stored run does not meet: a token opened with a number, a probe that is kept, a number that is not there, a text that is refused, and words that are not known where they stand.
 use crate::obey;
 use std::process::Abort;
 use std::test::Fail;
@@ -28,6 +28,16 @@ fn opened_with_a_number(rt: HostRuntime) -> Result<(), Fail> {
         "open 5 forward 39 show",
         b"iter 2 \\x:N.S x 3",
         b"forward 39: granted 39\nshow: step=39 from=4 to=0 m=- i=- s=0 d=*\n",
+    )
+}
+
+#[test]
+fn kept(rt: HostRuntime) -> Result<(), Fail> {
+    writes(
+        &rt,
+        "number probe keep keep",
+        b"iter 2 \\x:N.S x 3",
+        b"number: none, because of 27\nprobe: taken\nkeep: kept\nkeep: no probe is open\n",
     )
 }
 
