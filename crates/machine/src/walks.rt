@@ -87,7 +87,9 @@ impl<M: Machine> Walk<M> {
     }
 
     // Ends the probe and moves nothing.
-    pub fn keep(&self, probe: Probe) {
+    pub fn keep(&self, probe: Probe)
+        ensures { self.exit.now ≡ self.entry.now }
+    {
         let Probe { sum: _ } = probe;
     }
 

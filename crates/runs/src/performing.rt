@@ -32,7 +32,9 @@ pub fn perform<M: Readable>(
 }
 
 // Keeps the probes that are open at the end.
-fn keep_all<M: Machine>(walk: &Walk<M>, mut probes: Vec<Probe>) {
+fn keep_all<M: Machine>(walk: &Walk<M>, mut probes: Vec<Probe>)
+    ensures { walk.exit.now ≡ walk.entry.now }
+{
     while let Some(probe) = probes.pop() {
         walk.keep(probe);
     }
