@@ -56,3 +56,38 @@ Taken (Some k) w p p' true = (n : ℕ) × Figures w n × Counts k n p p'
 Taken (Some k) w p p' false = (n : ℕ) → Figures w n → ⊥
 Taken None w p p' true = ((c : Call Query) × Named w (Some c) × Becomes p' (vec_items p.calls ++ (c ∷ [])) p.first None) ⊎ ((k : Counted) × Wants w p.begun (Some k) × Becomes p' (vec_items p.calls) p.first (Some k))
 Taken None w p p' false = Named w None × Wants w p.begun None
+
+-- a plan before any word
+pub record IsBlank (p : Plan) : Type 0 where
+  pub calls : vec_items p.calls ≡ []
+  pub first : p.first ≡ dat.Question
+  pub waiting : p.waiting ≡ None
+  pub begun : p.begun ≡ false
+
+-- these words, each known where it stands, led from p to another plan
+pub data Led (p : Plan) : List (List ℕ) → Plan → Type 0 where
+  none_yet : Led p [] p
+  one_more : {ws : List (List ℕ)} {z : Plan} (w : List ℕ) (q : Plan) → Led p ws q → Taken q.waiting w q z true → Led p (ws ++ (w ∷ [])) z
+
+-- all the words were taken, and no number is wanted at their end
+pub record Planned (ws : List (List ℕ)) (p : Plan) : Type 0 where
+  pub start : Plan
+  pub blank : IsBlank start
+  pub led : Led start ws p
+  pub whole : p.waiting ≡ None
+
+-- at a plan, with these words left: the first is not known there, or there is none where a number is wanted
+abbrev pub Stops : Plan → List (List ℕ) → List ℕ → Type 0
+Stops q [] told = (q.waiting ≢ None) × (told ≡ codes "the end, for a number")
+Stops q (w ∷ ws) told = (told ≡ w) × ((z : Plan) × Taken q.waiting w q z false)
+
+-- the words before were taken, and `told` names what is not known after them
+pub record NotKnown (ws : List (List ℕ)) (told : List ℕ) : Type 0 where
+  pub start : Plan
+  pub blank : IsBlank start
+  pub before : List (List ℕ)
+  pub after : List (List ℕ)
+  pub all : ws ≡ before ++ after
+  pub reached : Plan
+  pub led : Led start before reached
+  pub stops : Stops reached after told

@@ -1,7 +1,7 @@
 // The words that ask for a walk, read one after another.
-ghost use Rattle.std.specs.Prelude.{◌≡◌, false, [], ◌∷◌, ◌++◌, IfOk, Some, None, OnOk};
+ghost use Rattle.std.specs.Prelude.{◌≡◌, false, [], ◌∷◌, ◌++◌, map, string_bytes, IfOk, MatchResult, Some, None, OnOk};
 ghost use Rattle.token.specs.declared.memory.DataCell.TheVariants.{Question};
-ghost use Rattle.walk.specs.Words.{Named, Wants, Becomes, Counts, Taken};
+ghost use Rattle.walk.specs.Words.{Named, Wants, Becomes, Counts, Taken, Planned, NotKnown};
 
 use lab::LINE;
 use runs::Call;
@@ -29,7 +29,9 @@ pub struct Plan {
 }
 
 // Reads the words one after another, or gives the first that is not known where it stands.
-pub fn read_words(words: &[String], heap: Global) -> Result<Result<Plan, String>, AllocError> {
+pub fn read_words(words: &[String], heap: Global) -> Result<Result<Plan, String>, AllocError>
+    ensures { IfOk result (λ r. MatchResult r (Planned (map string_bytes words.now)) (λ told. NotKnown (map string_bytes words.now) (string_bytes told))) }
+{
     let mut plan = Plan::new(heap);
     for word in words {
         if !plan.take(word.as_str())? {

@@ -1,0 +1,53 @@
+use Rattle.std.proofs.Common.{◌≡◌, [], ◌∷◌, ◌+◌, map, take, drop, string_bytes, sym, ap, ◌∙◌, arith, rules, append-nil}
+use Rattle.std.proofs.lemmas.List.{take_all}
+use Rattle.walk.specs.Words.{none_yet}
+use Rattle.walk.proofs.Reading.{cut_at, taken_as, led_more, none_wanted, one_wanted}
+use Rattle.walk.proofs.plan.read_words.Goals as goal
+
+pub loop-word-init : goal.loop-word-init
+loop-word-init c =
+    let b = c.new-plan.ensures in
+    (record { calls = b.0; first = b.1.0; waiting = b.1.1.0; begun = b.1.1.1 }, none_yet)
+
+pub returns-then-not-branch : goal.returns-then-not-branch
+returns-then-not-branch c =
+    let i = c.loop-word.word-index in
+    let ws = c.args.words.now in
+    record {
+      start = c.new-plan.result;
+      blank = c.loop-word.invariant.0;
+      before = map string_bytes (take i ws);
+      after = string_bytes c.word-item.result ∷ map string_bytes (drop (i + 1) ws);
+      all = cut_at string_bytes ws i c.word-item.result (omega arith) c.word-item.is;
+      reached = c.loop-word.plan;
+      led = c.loop-word.invariant.1;
+      stops = (c.in_ok-clone.ensures.cases, (c.take.new.self, taken_as c.loop-word.plan c.take.new.self (search rules) c.if-not-branch.true c.in_ok-take.ensures));
+    }
+
+pub loop-word-preserved : goal.loop-word-preserved
+loop-word-preserved c =
+    (c.loop-word.invariant.0, led_more string_bytes c.args.words.now c.loop-word.word-index c.word-item.result (omega arith) c.word-item.is c.loop-word.invariant.1 (taken_as c.loop-word.plan c.take.new.self (search rules) c.if-not-branch.false c.in_ok-take.ensures))
+
+pub returns-then-is_some : goal.returns-then-is_some
+returns-then-is_some c =
+    let i = c.loop-word.word-index in
+    let ws = c.args.words.now in
+    let all : take i ws ≡ ws = take_all i ws (omega arith) in
+    record {
+      start = c.new-plan.result;
+      blank = c.loop-word.invariant.0;
+      before = map string_bytes (take i ws);
+      after = [];
+      all = sym (append-nil (map string_bytes (take i ws)) ∙ ap (map string_bytes) all);
+      reached = c.loop-word.plan;
+      led = c.loop-word.invariant.1;
+      stops = (one_wanted c.loop-word.plan.waiting c.if-is_some.ensures, c.in_ok-from_str.ensures.ok);
+    }
+
+pub returns : goal.returns
+returns c = record {
+  start = c.new-plan.result;
+  blank = c.loop-word.invariant.0;
+  led = rw (take_all c.loop-word.word-index c.args.words.now (omega arith)) at c.loop-word.invariant.1;
+  whole = none_wanted c.loop-word.plan.waiting c.if-is_some.ensures;
+}
