@@ -2,7 +2,7 @@
 #![tactic(auto)]
 
 ghost use Rattle.std.specs.Prelude.{◌<◌, T, length, IfOk};
-ghost use Rattle.machine.specs.Walks.{place};
+ghost use Rattle.machine.specs.Standing.{stands};
 ghost use Rattle.token_machine.specs.Tokens.{state_of};
 ghost use Rattle.lab.specs.Listings.{rest_of};
 
@@ -21,7 +21,7 @@ fn write_line<W: Write>(
     listing: &mut Listing<'_>,
     line: &mut [u8],
 ) -> anyhow::Result<bool>
-    ensures { IfOk result (λ b. (T b → length (rest_of listing.new.stage (place (state_of listing.new.walk.machine) listing.new.walk.sum.value)) < length (rest_of listing.old.stage (place (state_of listing.old.walk.machine) listing.old.walk.sum.value)))) }
+    ensures { IfOk result (λ b. (T b → length (rest_of listing.new.stage (stands state_of listing.new.walk)) < length (rest_of listing.old.stage (stands state_of listing.old.walk)))) }
 {
     match listing.next_line(line) {
         Ok(Some(n)) => {
