@@ -7,10 +7,10 @@ ghost use Rattle.lab.specs.Bounds.{line_room, LinesFit};
 
 use crate::ends::End;
 use crate::stages::Stage;
-use crate::texts::show_text;
 use machine::{Reason, Walk};
 use std::alloc::{AllocError, Global};
 use token_machine::{Token, number, show};
+use writer::show_text;
 
 // The most steps that a listing takes.
 const LONGEST: u32 = 100_000;
