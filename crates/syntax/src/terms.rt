@@ -9,7 +9,7 @@ use crate::program::{Shape, Subterm};
 use crate::refusal::Refusal;
 use crate::scan::{expect, expect_in, first, let_head, passed_limit, place_of, skip};
 use crate::scope::Scope;
-use crate::scoping::{Guard, declare, enter, occur, settle};
+use crate::scoping::Guard;
 use crate::tables::Program;
 use crate::types::function_head;
 
@@ -66,7 +66,7 @@ fn after_first<'a>(
 {
     match first {
         First::Name(word) => {
-            let binder = occur(scope, at.place, word);
+            let binder = scope.occur(at.place, word);
             Ok((put(program, at.place, Shape::Variable(binder)), text))
         }
         First::Number(number) => Ok((put(program, at.place, Shape::Number(number)), text)),
@@ -105,7 +105,7 @@ fn body<'a>(
 {
     let guard = Guard(scope, before);
     let (body, rest) = term(text, at.end, at.depth + 1, program, &mut *guard.0)?;
-    settle(&mut *guard.0, before);
+    guard.0.settle(before);
     Ok((body, rest))
 }
 
@@ -117,8 +117,8 @@ fn function<'a>(text: &'a [u8], at: Start, program: &mut Program, scope: &mut Sc
 {
     let (head, rest) = function_head(text, at.end, &mut program.types)?;
     let before = scope.in_force.len();
-    declare(scope, head.binder);
-    enter(scope, head.binder);
+    scope.declare(head.binder);
+    scope.enter(head.binder);
     let (body, rest) = body(rest, at, before, program, scope)?;
     let shape = Shape::Function {
         binder: head.binder.place,
@@ -161,13 +161,13 @@ fn let_in<'a>(text: &'a [u8], at: Start, program: &mut Program, scope: &mut Scop
     ensures { Follows First.Let at text.now program.old scope.old program.new scope.new result }
 {
     let ((first, second), rest) = let_head(text, at.end)?;
-    declare(scope, first);
-    declare(scope, second);
+    scope.declare(first);
+    scope.declare(second);
     let (pair, rest) = term(rest, at.end, at.depth + 1, program, scope)?;
     let rest = expect_in(rest, at.end)?;
     let before = scope.in_force.len();
-    enter(scope, first);
-    enter(scope, second);
+    scope.enter(first);
+    scope.enter(second);
     let (body, rest) = body(rest, at, before, program, scope)?;
     let shape = Shape::Let {
         first: first.place,

@@ -94,7 +94,7 @@ function-declare-requires t c =
 
 pub function-enter-requires : goal.function-enter-requires
 function-enter-requires t c =
-    record { room = omega (arith, declared_force _ c.args.scope.now c.declare.new.scope c.declare.ensures, force_count c.args.scope.now, c.requires.room.force, c.requires.deep); short = c.in_ok-head.ensures.gives.2.binder.short }
+    record { room = omega (arith, declared_force _ c.args.scope.now c.declare.new.self c.declare.ensures, force_count c.args.scope.now, c.requires.room.force, c.requires.deep); short = c.in_ok-head.ensures.gives.2.binder.short }
 
 pub function-body-requires : goal.function-body-requires
 function-body-requires t c =
@@ -105,8 +105,8 @@ function-body-requires t c =
       (
         c.requires.deep,
         (
-          function-room c.args.at c.args.program.now S c.enter.new.scope f (vec_items c.function_head.new.types) c.requires (c.enter.ensures ∙ ap (enter f) c.declare.ensures) (omega (arith, x.2.counted, x.2.few)),
-          omega (arith, c.len-before.ensures, S.in_force.ok.0, declared_force f S c.declare.new.scope c.declare.ensures, entered_force f c.declare.new.scope c.enter.new.scope c.enter.ensures),
+          function-room c.args.at c.args.program.now S c.enter.new.self f (vec_items c.function_head.new.types) c.requires (c.enter.ensures ∙ ap (enter f) c.declare.ensures) (omega (arith, x.2.counted, x.2.few)),
+          omega (arith, c.len-before.ensures, S.in_force.ok.0, declared_force f S c.declare.new.self c.declare.ensures, entered_force f c.declare.new.self c.enter.new.self c.enter.ensures),
         ),
       ),
     )
@@ -117,14 +117,14 @@ function-returns-in_err-body t c =
     let S = c.args.scope.now in
     let high : c.len-before.result ≡ length (names_of S).force = omega (arith, c.len-before.ensures, S.in_force.ok.0, force_count S) in
     let q = err_from_is_err_and c.from_residual-in_err-body.result c.from_residual-in_err-body.ensures.1 in
-    rw (q.1, q.2) (function_stopped c.args.at c.args.text.now c.args.program.now _ S c.enter.new.scope c.len-before.result c.in_ok-head.head c.in_ok-head.rest (c.enter.ensures ∙ ap (enter f) c.declare.ensures) high c.in_err-body.ensures refl c.in_ok-head.ensures.gives)
+    rw (q.1, q.2) (function_stopped c.args.at c.args.text.now c.args.program.now _ S c.enter.new.self c.len-before.result c.in_ok-head.head c.in_ok-head.rest (c.enter.ensures ∙ ap (enter f) c.declare.ensures) high c.in_err-body.ensures refl c.in_ok-head.ensures.gives)
 
 pub function-returns : goal.function-returns
 function-returns t c =
     let f = binder_at c.in_ok-head.head.binder in
     let S = c.args.scope.now in
     let high : c.len-before.result ≡ length (names_of S).force = omega (arith, c.len-before.ensures, S.in_force.ok.0, force_count S) in
-    function_follows c.args.at c.args.text.now c.args.program.now _ S c.enter.new.scope c.len-before.result c.in_ok-head.head c.in_ok-head.rest (c.enter.ensures ∙ ap (enter f) c.declare.ensures) high c.in_ok-body.ensures refl c.in_ok-head.ensures.gives c.put.ensures
+    function_follows c.args.at c.args.text.now c.args.program.now _ S c.enter.new.self c.len-before.result c.in_ok-head.head c.in_ok-head.rest (c.enter.ensures ∙ ap (enter f) c.declare.ensures) high c.in_ok-body.ensures refl c.in_ok-head.ensures.gives c.put.ensures
 
 pub let_in-declare-requires : goal.let_in-declare-requires
 let_in-declare-requires t c =
@@ -132,27 +132,27 @@ let_in-declare-requires t c =
 
 pub let_in-declare-requires-2 : goal.let_in-declare-requires-2
 let_in-declare-requires-2 t c =
-    record { room = omega (arith, declared_bound _ c.args.scope.now c.declare.new.scope c.declare.ensures, bound_count c.args.scope.now, c.requires.room.bound, c.requires.few); short = c.in_ok-first.ensures.2.1.short }
+    record { room = omega (arith, declared_bound _ c.args.scope.now c.declare.new.self c.declare.ensures, bound_count c.args.scope.now, c.requires.room.bound, c.requires.few); short = c.in_ok-first.ensures.2.1.short }
 
 pub let_in-term-requires : goal.let_in-term-requires
 let_in-term-requires t c =
     let f = binder_at c.in_ok-first.first in
     let g = binder_at c.in_ok-first.second in
-    (search rules, pair_room c.args.at c.args.program.now c.args.scope.now c.declare-2.new.scope f g (c.declare-2.ensures ∙ ap (declare g) c.declare.ensures) c.requires)
+    (search rules, pair_room c.args.at c.args.program.now c.args.scope.now c.declare-2.new.self f g (c.declare-2.ensures ∙ ap (declare g) c.declare.ensures) c.requires)
 
 pub let_in-enter-requires : goal.let_in-enter-requires
 let_in-enter-requires t c =
     let S = c.args.scope.now in
-    let S₂ = c.declare-2.new.scope in
+    let S₂ = c.declare-2.new.self in
     let same = kept_force S₂ c.term.new.scope c.in_ok-pair.ensures.kept in
-    record { room = omega (arith, same, declared_force _ S c.declare.new.scope c.declare.ensures, declared_force _ c.declare.new.scope S₂ c.declare-2.ensures, force_count S, c.requires.room.force, c.requires.deep); short = c.in_ok-first.ensures.2.0.short }
+    record { room = omega (arith, same, declared_force _ S c.declare.new.self c.declare.ensures, declared_force _ c.declare.new.self S₂ c.declare-2.ensures, force_count S, c.requires.room.force, c.requires.deep); short = c.in_ok-first.ensures.2.0.short }
 
 pub let_in-enter-requires-2 : goal.let_in-enter-requires-2
 let_in-enter-requires-2 t c =
     let S = c.args.scope.now in
-    let S₂ = c.declare-2.new.scope in
+    let S₂ = c.declare-2.new.self in
     let same = kept_force S₂ c.term.new.scope c.in_ok-pair.ensures.kept in
-    record { room = omega (arith, same, declared_force _ S c.declare.new.scope c.declare.ensures, declared_force _ c.declare.new.scope S₂ c.declare-2.ensures, entered_force _ c.term.new.scope c.enter.new.scope c.enter.ensures, force_count S, c.requires.room.force, c.requires.deep); short = c.in_ok-first.ensures.2.1.short }
+    record { room = omega (arith, same, declared_force _ S c.declare.new.self c.declare.ensures, declared_force _ c.declare.new.self S₂ c.declare-2.ensures, entered_force _ c.term.new.scope c.enter.new.self c.enter.ensures, force_count S, c.requires.room.force, c.requires.deep); short = c.in_ok-first.ensures.2.1.short }
 
 pub let_in-body-requires : goal.let_in-body-requires
 let_in-body-requires t c =
@@ -163,8 +163,8 @@ let_in-body-requires t c =
       (
         c.requires.deep,
         (
-          let_room c.args.at c.args.program.now c.args.scope.now c.declare-2.new.scope f g (c.declare-2.ensures ∙ ap (declare g) c.declare.ensures) c.in_ok-first.rest.now c.in_ok-pair.ensures c.enter-2.new.scope (c.enter-2.ensures ∙ ap (enter g) c.enter.ensures) c.requires,
-          omega (arith, c.len-before.ensures, S₃.in_force.ok.0, entered_force f S₃ c.enter.new.scope c.enter.ensures, entered_force g c.enter.new.scope c.enter-2.new.scope c.enter-2.ensures),
+          let_room c.args.at c.args.program.now c.args.scope.now c.declare-2.new.self f g (c.declare-2.ensures ∙ ap (declare g) c.declare.ensures) c.in_ok-first.rest.now c.in_ok-pair.ensures c.enter-2.new.self (c.enter-2.ensures ∙ ap (enter g) c.enter.ensures) c.requires,
+          omega (arith, c.len-before.ensures, S₃.in_force.ok.0, entered_force f S₃ c.enter.new.self c.enter.ensures, entered_force g c.enter.new.self c.enter-2.new.self c.enter-2.ensures),
         ),
       ),
     )
@@ -177,7 +177,7 @@ let_in-returns-in_err-body t c =
     let S₃ = c.term.new.scope in
     let high : c.len-before.result ≡ length (names_of S₃).force = omega (arith, c.len-before.ensures, S₃.in_force.ok.0, force_count S₃) in
     let q = err_from_is_err_and c.from_residual-in_err-body.result c.from_residual-in_err-body.ensures.1 in
-    rw (q.1, q.2) (let_stopped c.args.at c.args.program.now c.args.scope.now c.declare-2.new.scope f g (c.declare-2.ensures ∙ ap (declare g) c.declare.ensures) c.in_ok-first.rest.now c.in_ok-pair.ensures c.enter-2.new.scope (c.enter-2.ensures ∙ ap (enter g) c.enter.ensures) c.args.text.now c.len-before.result c.in_ok-rest.rest high (both_read w.1 w.2.0.is w.2.1.is) c.in_ok-rest.ensures c.in_err-body.ensures)
+    rw (q.1, q.2) (let_stopped c.args.at c.args.program.now c.args.scope.now c.declare-2.new.self f g (c.declare-2.ensures ∙ ap (declare g) c.declare.ensures) c.in_ok-first.rest.now c.in_ok-pair.ensures c.enter-2.new.self (c.enter-2.ensures ∙ ap (enter g) c.enter.ensures) c.args.text.now c.len-before.result c.in_ok-rest.rest high (both_read w.1 w.2.0.is w.2.1.is) c.in_ok-rest.ensures c.in_err-body.ensures)
 
 pub let_in-returns : goal.let_in-returns
 let_in-returns t c =
@@ -186,4 +186,4 @@ let_in-returns t c =
     let w = c.in_ok-first.ensures in
     let S₃ = c.term.new.scope in
     let high : c.len-before.result ≡ length (names_of S₃).force = omega (arith, c.len-before.ensures, S₃.in_force.ok.0, force_count S₃) in
-    let_follows c.args.at c.args.program.now c.args.scope.now c.declare-2.new.scope f g (c.declare-2.ensures ∙ ap (declare g) c.declare.ensures) c.in_ok-first.rest.now c.in_ok-pair.ensures c.enter-2.new.scope (c.enter-2.ensures ∙ ap (enter g) c.enter.ensures) c.args.text.now c.len-before.result c.in_ok-rest.rest high (both_read w.1 w.2.0.is w.2.1.is) c.in_ok-rest.ensures c.in_ok-body.ensures c.put.ensures
+    let_follows c.args.at c.args.program.now c.args.scope.now c.declare-2.new.self f g (c.declare-2.ensures ∙ ap (declare g) c.declare.ensures) c.in_ok-first.rest.now c.in_ok-pair.ensures c.enter-2.new.self (c.enter-2.ensures ∙ ap (enter g) c.enter.ensures) c.args.text.now c.len-before.result c.in_ok-rest.rest high (both_read w.1 w.2.0.is w.2.1.is) c.in_ok-rest.ensures c.in_ok-body.ensures c.put.ensures
