@@ -1,7 +1,7 @@
 // Names: what binding, entering, using and leaving does to them.
 ghost use Rattle.std.specs.Prelude.{◌≡◌, ◌<◌, ◌≤◌, map, length};
 ghost use Rattle.std.specs.Str.{bytes_eq};
-ghost use Rattle.syntax.specs.Names.{fault as fault_at, among as amongst, before as precedes, sooner as soonest, binder_of};
+ghost use Rattle.syntax.specs.Names.{fault as fault_at, among as amongst, sooner as soonest, binder_of};
 ghost use Rattle.syntax.specs.Scopes.{declare as declared, enter as entered, found as place, unused as idle, occur as occurred, settle as settled, note as noted, shut};
 ghost use Rattle.syntax.specs.Held.{spelled, name_in_force, names_of, binders_of};
 ghost use Rattle.syntax.specs.Steps.{binder_at};
@@ -55,19 +55,13 @@ fn found(names: &[InForce], word: &[u8]) -> Option<usize>
     None
 }
 
-// Does `a` go before `b`: by its place, then by its number?
-fn before(a: Refusal, b: Refusal) -> bool
-    ensures { result ≡ precedes a b }
-{
-    a.place < b.place || a.place == b.place && a.fault.number() < b.fault.number()
-}
-
+// The one that goes first, of a refusal and perhaps another.
 fn sooner(a: Refusal, other: Option<Refusal>) -> Option<Refusal>
     ensures { result ≡ soonest a other }
 {
     match other {
         None => Some(a),
-        Some(b) => { if before(a, b) { Some(a) } else { Some(b) } }
+        Some(b) => Some(b.min(a)),
     }
 }
 
