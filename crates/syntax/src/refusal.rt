@@ -1,5 +1,7 @@
-ghost use Rattle.std.specs.Prelude.{◌≡◌};
-ghost use Rattle.syntax.specs.Names.{number};
+ghost use Rattle.std.specs.Prelude.{◌≡◌, Some};
+ghost use Rattle.syntax.specs.Names.{number, refusal_text};
+
+use std::fmt;
 
 // The questions that a text is asked, by the numbers of their refusals.
 #[derive(Clone, Copy, PartialEq, Eq, PartialOrd, Ord, Debug)]
@@ -33,4 +35,14 @@ impl From<Fault> for u8 {
 pub struct Refusal {
     pub place: usize,
     pub fault: Fault,
+}
+
+impl fmt::Display for Refusal {
+    ghost output = { λ refusal. Some (refusal_text refusal) };
+
+    fn fmt<W: fmt::Write>(&self, f: &mut fmt::Formatter<W>) -> fmt::Result {
+        let number = u8::from(self.fault);
+        let place = self.place;
+        write!(f, "refused={number} place={place}")
+    }
 }
