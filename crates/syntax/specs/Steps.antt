@@ -106,9 +106,9 @@ by_first end part p first.Let n m s = let_in end part p n m s
 by_first end part p first.Iterator n m s = iterator part p n m s
 
 -- a text that begins with a sign, by what it tells: whatever reads the parts, and however many sub-terms and type signs stand before
-abbrev pub Opens : Rest → Result (First × Rest) Refusal → Type 0
-Opens s (Ok r) = ((fits : Bool) (part : TermReader) (n m : ℕ) → term_by s.end fits part n m (signs_in s) ≡ limited (fits && nat_lt n 2048) (place_of s) (by_first s.end part (place_of s) r.0 (suc n) m (lex s.end r.1.bytes.now))) × (r.1.end ≡ s.end)
-Opens s (Err f) = (fits : Bool) (part : TermReader) (n m : ℕ) → term_by s.end fits part n m (signs_in s) ≡ refused f
+abbrev pub Opens : ℕ → List ℕ → Result (First × Rest) Refusal → Type 0
+Opens end s (Ok r) = ((fits : Bool) (part : TermReader) (n m : ℕ) → term_by end fits part n m (lex end s) ≡ limited (fits && nat_lt n 2048) (end - length s) (by_first end part (end - length s) r.0 (suc n) m (lex end r.1.bytes.now))) × (r.1.end ≡ end)
+Opens end s (Err f) = (fits : Bool) (part : TermReader) (n m : ℕ) → term_by end fits part n m (lex end s) ≡ refused f
 
 -- a term read inside `depth` others: what it puts after sub-terms and type cells, and what it does to names
 pub record TermHeld (depth : ℕ) (subs : List Subterm) (cells : List TypeCell) (names : Names) (subs' : List Subterm) (cells' : List TypeCell) (names' : Names) (a : Tree Name × ℕ × ℕ) (i : ℕ) : Type 0 where
@@ -185,6 +185,6 @@ pub record BodyHeld (before depth : ℕ) (program : Program) (scope : Scope) (pr
   pub left : names' ≡ leave before late
 
 -- whatever reading a body answers, its names are out of force
-pub record BodyRead (start : Start) (before : ℕ) (rest : Rest) (program : Program) (scope : Scope) (program' : Program) (scope' : Scope) (r : Result (ℕ × Rest) Refusal) : Type 0 where
-  pub gives : Gives rest.end (BodyHeld before (start.depth + 1) program scope program' (names_of scope')) (part_of rest.end start (begun (start.depth + 1) program) (signed program) (signs_in rest)) r
+pub record BodyRead (end : ℕ) (start : Start) (before : ℕ) (text : List ℕ) (program : Program) (scope : Scope) (program' : Program) (scope' : Scope) (r : Result (ℕ × Rest) Refusal) : Type 0 where
+  pub gives : Gives end (BodyHeld before (start.depth + 1) program scope program' (names_of scope')) (part_of end start (begun (start.depth + 1) program) (signed program) (lex end text)) r
   pub kept : in_force_in scope' ≡ take before (in_force_in scope)

@@ -163,7 +163,7 @@ impl<'a> Rest<'a> {
     fn first_word(self) -> Result<(First<'a>, Rest<'a>), Refusal>
         requires starts { 1 ≤ length self.bytes.now }
         requires letter { letter (slice_index self.bytes.now 0) ≡ true }
-        ensures { Opens self.entry result }
+        ensures { Opens self.entry.end self.entry.bytes.now result }
     {
         let (word, rest) = self.word();
         match word {
@@ -181,7 +181,7 @@ impl<'a> Rest<'a> {
     fn first_number(self) -> Result<(First<'a>, Rest<'a>), Refusal>
         requires starts { 1 ≤ length self.bytes.now }
         requires digit { digit (slice_index self.bytes.now 0) ≡ true }
-        ensures { Opens self.entry result }
+        ensures { Opens self.entry.end self.entry.bytes.now result }
     {
         let (digits, rest) = self.digits();
         match number(digits) {
@@ -193,7 +193,7 @@ impl<'a> Rest<'a> {
     // Which term begins at the front of a text that begins with a sign, if one can.
     pub(crate) fn first(self) -> Result<(First<'a>, Rest<'a>), Refusal>
         requires { self.bytes.now ≡ skipped self.bytes.now }
-        ensures { Opens self.entry result }
+        ensures { Opens self.entry.end self.entry.bytes.now result }
     {
         match self.bytes {
             [b'S', after @ ..] => Ok((First::Successor, self.with(after))),

@@ -7,7 +7,7 @@ use crate::names::{First, Rest, Start};
 use crate::program::{Shape, Subterm};
 use crate::refusal::{Fault, Refusal};
 use crate::scope::Scope;
-use crate::scoping::{Guard, declare, enter, occur, settle};
+use crate::scoping::Guard;
 use crate::tables::Program;
 use crate::types::function_head;
 
@@ -65,7 +65,7 @@ fn after_first<'a>(
 {
     match first {
         First::Name(word) => {
-            let binder = occur(scope, at.place, word);
+            let binder = scope.occur(at.place, word);
             Ok((program.put(at.place, Shape::Variable(binder)), rest))
         }
         First::Number(number) => Ok((program.put(at.place, Shape::Number(number)), rest)),
@@ -100,11 +100,11 @@ fn body<'a>(
     requires deep { at.depth < 128 }
     requires room { HasRoom (at.depth + 1) program.old scope.old }
     requires own { before ≤ length scope.old.in_force.items }
-    ensures { BodyRead at before rest.entry program.old scope.old program.new scope.new result }
+    ensures { BodyRead rest.entry.end at before rest.entry.bytes.now program.old scope.old program.new scope.new result }
 {
     let guard = Guard(scope, before);
     let (body, rest) = term(rest, at.depth + 1, program, &mut *guard.0)?;
-    settle(&mut *guard.0, before);
+    guard.0.settle(before);
     Ok((body, rest))
 }
 
@@ -116,8 +116,8 @@ fn function<'a>(rest: Rest<'a>, at: Start, program: &mut Program, scope: &mut Sc
 {
     let (head, rest) = function_head(rest, program)?;
     let before = scope.in_force.len();
-    declare(scope, head.binder);
-    enter(scope, head.binder);
+    scope.declare(head.binder);
+    scope.enter(head.binder);
     let (body, rest) = body(rest, at, before, program, scope)?;
     let shape = Shape::Function {
         binder: head.binder.place,
@@ -160,13 +160,13 @@ fn let_in<'a>(rest: Rest<'a>, at: Start, program: &mut Program, scope: &mut Scop
     ensures { Follows First.Let at rest.entry program.old scope.old program.new scope.new result }
 {
     let ((first, second), rest) = rest.let_head()?;
-    declare(scope, first);
-    declare(scope, second);
+    scope.declare(first);
+    scope.declare(second);
     let (pair, rest) = term(rest, at.depth + 1, program, scope)?;
     let rest = rest.expect_in()?;
     let before = scope.in_force.len();
-    enter(scope, first);
-    enter(scope, second);
+    scope.enter(first);
+    scope.enter(second);
     let (body, rest) = body(rest, at, before, program, scope)?;
     let shape = Shape::Let {
         first: first.place,
