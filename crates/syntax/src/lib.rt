@@ -45,10 +45,12 @@ impl Scope {
     }
 }
 
-// Reads a whole program.
-fn whole(text: &[u8], program: &mut Program, scope: &mut Scope) -> Result<usize, Refusal>
-    ensures { Answers text.now program.new.subterms.items program.new.types.items result }
+// Reads a whole program, into tables that are emptied first.
+fn whole(text: &[u8], tables: &mut Tables) -> Result<usize, Refusal>
+    ensures { Answers text.now tables.new.program.subterms.items tables.new.program.types.items result }
 {
+    let program = &mut tables.program;
+    let scope = &mut tables.scope;
     program.clear();
     scope.clear();
     let end = text.len();
@@ -73,7 +75,7 @@ fn whole(text: &[u8], program: &mut Program, scope: &mut Scope) -> Result<usize,
 pub fn read(text: &[u8], tables: &mut Tables) -> Result<usize, Refusal>
     ensures { ReadAs text.now tables.new.program.subterms.items tables.new.program.types.items result }
 {
-    let answer = whole(text, &mut tables.program, &mut tables.scope);
+    let answer = whole(text, tables);
     if answer.is_err() {
         tables.program.clear();
     }
