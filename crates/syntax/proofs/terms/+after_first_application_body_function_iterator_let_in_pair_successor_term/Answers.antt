@@ -70,9 +70,6 @@ iterator-term-requires-3 t c =
 pub iterator-returns : goal.iterator-returns
 iterator-returns t c = iter_follows c.args.at c.args.text.now c.in_ok-count.ensures c.in_ok-step.ensures c.in_ok-base.ensures c.put.ensures
 
-pub body-settle-requires : goal.body-settle-requires
-body-settle-requires t c = omega (arith, kept_force c.args.scope.now c.term.new.scope c.term.ensures.kept, c.requires.own)
-
 pub body-returns-in_err-body : goal.body-returns-in_err-body
 body-returns-in_err-body t c =
     let q = err_from_is_err_and c.from_residual.result c.from_residual.ensures.1 in
