@@ -21,7 +21,7 @@ use Rattle.syntax.specs.Layout.{push}
 use Rattle.syntax.specs.Scopes.{InForce, Names, declare, enter, occur}
 use Rattle.syntax.specs.Held.{spelled, name_in_force, names_of, binders_of}
 use Rattle.syntax.specs.Steps.{Gives, Passes, binder_at, HeadHeld, TermHeld, Room, HasRoom, begun, signed, in_force_in, IsPut, TermRead, IsCounted, part_of, Follows, BodyRead}
-use Rattle.syntax.proofs.NameSteps.{take-map}
+use Rattle.std.proofs.lemmas.List.{take-map}
 use Rattle.syntax.proofs.ReadSteps.{held_as, held_from, occur_bound, occur_kept}
 use Rattle.syntax.proofs.TermSteps.{left_over, entered, entered_two, force_length, room_body, room_pair, room_let, room_next, held_leaf, held_succ, held_app, held_pair, held_iter, held_function, held_let, visit_occ, visit_num}
 

@@ -1,58 +1,21 @@
 // Names: what binding, entering, using and leaving does to them.
 ghost use Rattle.std.specs.Prelude.{◌≡◌, ◌<◌, ◌≤◌, map, length};
 ghost use Rattle.std.specs.Str.{bytes_eq};
-ghost use Rattle.syntax.specs.Names.{fault as fault_at, among as amongst, sooner as soonest, binder_of};
-ghost use Rattle.syntax.specs.Scopes.{declare as declared, enter as entered, found as place, unused as idle, occur as occurred, settle as settled, note as noted, shut};
+ghost use Rattle.syntax.specs.Names.{among, fault as fault_at, sooner as soonest, binder_of};
+ghost use Rattle.syntax.specs.Scopes.{declare as declared, enter as entered, occur as occurred, settle as settled, note as noted, shut};
 ghost use Rattle.syntax.specs.Held.{spelled, name_in_force, names_of, binders_of};
 ghost use Rattle.syntax.specs.Steps.{binder_at};
 
 use crate::names::Binder;
 use crate::refusal::{Fault, Refusal};
 use crate::scope::{InForce, Name, Scope};
+use arrayvec::ArrayVec;
 
-fn copy(word: &[u8]) -> Name
+fn copied(word: &[u8]) -> Name
     requires { length word.now ≤ 16 }
     ensures { spelled result ≡ word.now }
 {
-    let mut letters = [0; 16];
-    for (i, b) in word.iter().enumerate() {
-        letters[i] = *b;
-    }
-    Name {
-        letters,
-        length: word.len(),
-    }
-}
-
-fn same(name: &Name, word: &[u8]) -> bool
-    ensures { result ≡ bytes_eq word.now (spelled name.now) }
-{
-    &name.letters[0..name.length] == word
-}
-
-fn among(names: &[Name], word: &[u8]) -> bool
-    ensures { result ≡ amongst word.now (map spelled names.now) }
-{
-    for name in names {
-        if same(name, word) {
-            return true;
-        }
-    }
-    false
-}
-
-// The number of the innermost name in force that is spelled so.
-fn found(names: &[InForce], word: &[u8]) -> Option<usize>
-    ensures { result ≡ place word.now (map name_in_force names.now) }
-{
-    let mut i = names.len();
-    while i > 0 {
-        i -= 1;
-        if same(&names[i].name, word) {
-            return Some(i);
-        }
-    }
-    None
+    ArrayVec::try_from(word).unwrap()
 }
 
 // The one that goes first, of a refusal and perhaps another.
@@ -65,24 +28,6 @@ fn sooner(a: Refusal, other: Option<Refusal>) -> Option<Refusal>
     }
 }
 
-fn unused(names: &[InForce], least: Option<Refusal>) -> Option<Refusal>
-    ensures { result ≡ idle (map name_in_force names.now) least }
-{
-    let mut least = least;
-    for name in names {
-        if !name.used {
-            least = sooner(
-                Refusal {
-                    fault: Fault::Unused,
-                    place: name.place,
-                },
-                least,
-            );
-        }
-    }
-    least
-}
-
 impl Scope {
     // A fault is met: the one that goes first is kept.
     fn note(&mut self, fault: Fault, place: usize)
@@ -91,16 +36,23 @@ impl Scope {
         self.least = sooner(Refusal { fault, place }, self.least);
     }
 
+    // Was this name bound before?
+    fn binds(&self, word: &[u8]) -> bool
+        ensures { result ≡ among word.now (names_of self.now).bound }
+    {
+        self.bound.iter().any(|name| name.as_slice() == word)
+    }
+
     // A binder is met in the text: its name may be bound only once.
     pub(crate) fn declare(&mut self, binder: Binder)
         requires room { length self.old.bound.items < 4096 }
         requires short { length binder.name.now ≤ 16 }
         ensures { names_of self.new ≡ declared (binder_at binder.entry) (names_of self.old) }
     {
-        if among(&self.bound, binder.name) {
+        if self.binds(binder.name) {
             self.note(Fault::BoundTwice, binder.place);
         }
-        self.bound.push_reserved(copy(binder.name));
+        self.bound.push_reserved(copied(binder.name));
     }
 
     // It comes into force.
@@ -111,7 +63,7 @@ impl Scope {
     {
         self.in_force.push_reserved(InForce {
             place: binder.place,
-            name: copy(binder.name),
+            name: copied(binder.name),
             used: false,
         });
     }
@@ -121,7 +73,11 @@ impl Scope {
         ensures names { names_of self.new ≡ occurred place word.now (names_of self.old) }
         ensures binder { result ≡ binder_of word.now (binders_of (names_of self.old).force) place }
     {
-        let Some(i) = found(&self.in_force, word) else {
+        let met = self
+            .in_force
+            .iter()
+            .rposition(|name| name.name.as_slice() == word);
+        let Some(i) = met else {
             self.note(Fault::Unbound, place);
             return place;
         };
@@ -137,10 +93,18 @@ impl Scope {
 
     // Names that go out of force have to be used.
     pub(crate) fn settle(&mut self, before: usize)
-        requires { before ≤ length self.old.in_force.items }
         ensures { names_of self.new ≡ settled before (names_of self.old) }
     {
-        self.least = unused(&self.in_force[before..], self.least);
+        let idle = self.in_force.iter().skip(before).filter(|name| !name.used);
+        self.least = idle.fold(self.least, |least, name| {
+            sooner(
+                Refusal {
+                    fault: Fault::Unused,
+                    place: name.place,
+                },
+                least,
+            )
+        });
     }
 }
 

@@ -87,9 +87,6 @@ iterator-returns t c =
     let z = rw y.gives.3 at c.in_ok-base.ensures in
     iter_follows c.args.at c.args.rest x y z c.put.ensures
 
-pub body-settle-requires : goal.body-settle-requires
-body-settle-requires t c = omega (arith, kept_force c.args.scope.now c.term.new.scope c.term.ensures.kept, c.requires.own)
-
 pub body-returns-in_err-body : goal.body-returns-in_err-body
 body-returns-in_err-body t c =
     let q = err_from_is_err_and c.from_residual.result c.from_residual.ensures.1 in
