@@ -2,6 +2,7 @@ pub mod Examples
 pub mod Lexing
 pub mod Scanning
 pub mod TypeSteps
+mod Order
 pub mod NameSteps
 pub mod FirstSteps
 pub mod HeadSteps

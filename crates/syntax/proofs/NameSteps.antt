@@ -1,48 +1,34 @@
 -- What the functions on names do, step by step.
-use Rattle.std.proofs.Common.{◌≡◌, ℕ, zero, suc, ◌<◌, Bool, true, false, cond, ◌||◌, List, [], ◌∷◌, ◌++◌, map, length, get_or, take, drop, Some, None, Option, refl, ap, arith}
+use Rattle.std.proofs.Common.{◌≡◌, ℕ, zero, suc, ◌+◌, ◌<◌, Bool, true, false, not, cond, ◌||◌, List, [], ◌∷◌, map, length, get_or, Some, None, Option, refl, ap, arith, All}
 use Rattle.std.specs.Str.{bytes_eq}
+use Rattle.std.specs.List.{AllWithin, HoldsAt, list_any, filter, fold}
+use Rattle.std.proofs.lemmas.List.Elements.{All-head, All-tail}
+use Rattle.arrayvec.specs.ArrayVec.{ArrayVec}
+use Rattle.syntax.specs.declared.scope.InForce.{InForce as HeldForce}
 use Rattle.syntax.specs.declared.refusal.Fault.TheVariants.{Unused}
 use Rattle.syntax.specs.declared.refusal.Refusal.{Refusal}
 use Rattle.syntax.specs.Trees.{Name}
 use Rattle.syntax.specs.Names.{among, fault, sooner, binder_of}
 use Rattle.syntax.specs.Scopes.{InForce, found, unused, nobody}
-use Rattle.syntax.specs.Held.{binders_of}
+use Rattle.syntax.specs.Held.{spelled, name_in_force, binders_of}
 
-pub drop-map : {X Y : Type 0} (f : X → Y) (n : ℕ) (xs : List X) → drop n (map f xs) ≡ map f (drop n xs)
-drop-map f zero xs = refl
-drop-map f (suc n) [] = refl
-drop-map f (suc n) (x ∷ xs) = drop-map f n xs
+-- the search over the names bound so far
+pub among_any : (w : Name) (xs : List (ArrayVec ℕ)) → list_any (λ x. bytes_eq w (spelled x)) xs ≡ among w (map spelled xs)
+among_any w [] = refl
+among_any w (x ∷ xs) = ap (λ r. bytes_eq w (spelled x) || r) (among_any w xs)
 
-pub take-map : {X Y : Type 0} (f : X → Y) (n : ℕ) (xs : List X) → take n (map f xs) ≡ map f (take n xs)
-take-map f zero xs = refl
-take-map f (suc n) [] = refl
-take-map {Y = Y} f (suc n) (x ∷ xs) = ap (λ (r : List Y). f x ∷ r) (take-map f n xs)
+-- the search over the names in force, from the innermost
+pub found_none : (w : Name) (xs : List HeldForce) → All (λ x. bytes_eq w (spelled x.name) ≡ false) xs → found w (map name_in_force xs) ≡ None
+found_none w [] none = refl
+found_none w (x ∷ xs) none =
+    let P : HeldForce → Type 0 = λ y. bytes_eq w (spelled y.name) ≡ false in
+    rw (found_none w xs (All-tail P x xs none), All-head P x xs none) refl
 
-pub among_hit : (w : Name) (xs : List Name) (i : ℕ) → i < length xs → bytes_eq w (get_or xs i []) ≡ true → among w xs ≡ true
-among_hit w [] i h e = absurd (omega arith)
-among_hit w (x ∷ xs) zero h e = rw e refl
-among_hit w (x ∷ xs) (suc i) h e = go (bytes_eq w x) (among_hit w xs i (omega arith) e)
-  where
-    go : (v : Bool) → among w xs ≡ true → (v || among w xs) ≡ true
-    go true a = refl
-    go false a = a
-
-pub among-push : (w : Name) (xs : List Name) (x : Name) → among w xs ≡ false → bytes_eq w x ≡ false → among w (xs ++ (x ∷ [])) ≡ false
-among-push w [] x a e = rw e refl
-among-push w (y ∷ xs) x a e = go (bytes_eq w y) refl (among-push w xs x)
-  where
-    go : (v : Bool) → bytes_eq w y ≡ v → (among w xs ≡ false → bytes_eq w x ≡ false → among w (xs ++ (x ∷ [])) ≡ false) → (bytes_eq w y || among w (xs ++ (x ∷ []))) ≡ false
-    go true h ih = let z : true ≡ false = rw h at a in let k : ◌≡◌ {A = ℕ} 0 1 = cc in absurd (omega arith)
-    go false h ih = let z : among w xs ≡ false = rw h at a in rw h (ih z e)
-
--- the search from the innermost name
-pub found_none : (w : Name) (x : InForce) (xs : List InForce) → found w xs ≡ None → bytes_eq w x.binder.name ≡ false → found w (x ∷ xs) ≡ None
-found_none w x xs n e = rw (n, e) refl
-
-pub found_at : (w : Name) (xs : List InForce) (i : ℕ) → i < length xs → found w (drop (suc i) xs) ≡ None → bytes_eq w (get_or xs i nobody).binder.name ≡ true → found w xs ≡ Some i
-found_at w [] i h n e = absurd (omega arith)
-found_at w (x ∷ xs) zero h n e = rw (n, e) refl
-found_at w (x ∷ xs) (suc i) h n e = rw (found_at w xs i (omega arith) n e) refl
+pub found_last : (w : Name) (xs : List HeldForce) (i : ℕ) → i < length xs → HoldsAt (λ x. bytes_eq w (spelled x.name) ≡ true) xs i → AllWithin (λ x. bytes_eq w (spelled x.name) ≡ false) xs (i + 1) (length xs) → found w (map name_in_force xs) ≡ Some i
+found_last w [] i inside here after = absurd (omega (arith, inside))
+found_last w (x ∷ xs) zero inside here after =
+    rw (found_none w xs (λ k d h. after (suc k) d (omega arith) (omega (arith, h))), here x) refl
+found_last w (x ∷ xs) (suc i) inside here after = rw (found_last w xs i (omega (arith, inside)) here (λ k d h g. after (suc k) d (omega (arith, h)) (omega (arith, g)))) refl
 
 pub found_within : (w : Name) (xs : List InForce) (i : ℕ) → found w xs ≡ Some i → i < length xs
 found_within w [] i e = let z : ◌≡◌ {A = ℕ} 0 1 = cc in absurd (omega arith)
@@ -75,7 +61,11 @@ binder-found w (x ∷ xs) i p e = go (found w xs) refl (bytes_eq w x.binder.name
     go None h true k ih = let z : Some 0 ≡ Some i = rw (h, k) at e in let l : 0 ≡ i = cc in rw (k, ← l) (binder_none w xs x.binder.place h)
     go None h false k ih = let z : None ≡ Some i = rw (h, k) at e in let y : ◌≡◌ {A = ℕ} 0 1 = cc in absurd (omega arith)
 
--- one more name that goes out of force
-pub unused-push : (xs : List InForce) (x : InForce) (f : Option Refusal) → unused (xs ++ (x ∷ [])) f ≡ cond x.used (unused xs f) (sooner (fault Unused x.binder.place) (unused xs f))
-unused-push [] x f = refl
-unused-push (y ∷ xs) x f = unused-push xs x (cond y.used f (sooner (fault Unused y.binder.place) f))
+-- the names that go out of force
+pub unused_fold : (xs : List HeldForce) (f : Option Refusal) → fold (λ g x. sooner (fault Unused x.place) g) f (filter (λ x. not x.used) xs) ≡ unused (map name_in_force xs) f
+unused_fold [] f = refl
+unused_fold (x ∷ xs) f = go x.used refl (unused_fold xs)
+  where
+    go : (v : Bool) → x.used ≡ v → ((g : Option Refusal) → fold (λ g y. sooner (fault Unused y.place) g) g (filter (λ y. not y.used) xs) ≡ unused (map name_in_force xs) g) → fold (λ g y. sooner (fault Unused y.place) g) f (filter (λ y. not y.used) (x ∷ xs)) ≡ unused (map name_in_force xs) (cond x.used f (sooner (fault Unused x.place) f))
+    go true e ih = rw e (ih f)
+    go false e ih = rw e (ih (sooner (fault Unused x.place) f))

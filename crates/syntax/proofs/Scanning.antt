@@ -1,5 +1,6 @@
 -- What reading gives at one sign, by the bytes that stand there.
 use Rattle.std.proofs.Common.{◌≡◌, ℕ, zero, suc, ◌+◌, ◌-◌, ◌*◌, ◌<◌, ◌≤◌, Bool, true, false, cond, not, ◌&&◌, eqb, leb, List, [], ◌∷◌, ◌++◌, length, get_or, take, drop, codes, refl, ap, ◌∙◌, arith}
+use Rattle.std.specs.List.{prefix_len}
 use Rattle.std.proofs.lemmas.Slice.Eq.{bytes_eq-Decides}
 use Rattle.std.proofs.lemmas.List.{take_more}
 use Rattle.std.proofs.lemmas.Bool.{eq-eqb, ne_eqb, and_parts, leb-true}
@@ -10,13 +11,14 @@ use Rattle.syntax.specs.Parse.{got, refuse, expect, is_mark, is_word_in, binder}
 use Rattle.syntax.specs.Steps.{skipped, run}
 use Rattle.syntax.proofs.Lexing.{first_sign, after_first, signs_from, signs_none}
 
--- the longest front, once n bytes of the kind were passed and the next is none
-pub run_is : (kind : ℕ → Bool) (s : List ℕ) (n : ℕ) → n ≤ length s → ((k : ℕ) → k < n → kind (get_or s k 0) ≡ true) → (n < length s → kind (get_or s n 0) ≡ false) → run kind s ≡ n
-run_is kind [] n short all stop = omega arith
-run_is kind (b ∷ s) zero short all stop = let e : kind b ≡ false = stop (omega arith) in rw e
-run_is kind (b ∷ s) (suc n) short all stop =
-    let e : kind b ≡ true = all 0 (omega arith) in
-    rw e (ap suc (run_is kind s n (omega arith) (λ k h. all (suc k) (omega arith)) (λ h. stop (omega arith))))
+-- how many bytes std counts at the front
+pub run_is : (kind : ℕ → Bool) (s : List ℕ) → prefix_len kind s ≡ run kind s
+run_is kind [] = refl
+run_is kind (b ∷ s) = let e = run_is kind s in rw e (go (kind b))
+  where
+    go : (v : Bool) → cond v (1 + run kind s) 0 ≡ cond v (suc (run kind s)) 0
+    go true = omega arith
+    go false = refl
 
 -- every byte of the front is of the kind
 pub run_all : (kind : ℕ → Bool) (s : List ℕ) (k : ℕ) → k < length (take (run kind s) s) → kind (get_or (take (run kind s) s) k 0) ≡ true

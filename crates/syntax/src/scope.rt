@@ -1,17 +1,13 @@
 ghost use Rattle.std.specs.Prelude.{◌≤◌, vec_capacity};
 
 use crate::refusal::Refusal;
+use arrayvec::ArrayVec;
 
-// The letters of a name, copied from the text.
-#[derive(Clone, Copy)]
-pub struct Name {
-    pub letters: [u8; 16],
-    pub length: usize,
-    ghost short: { length ≤ 16 },
-}
+// The letters of a name, copied from the text, which the names outlive.
+pub type Name = ArrayVec<u8, 16>;
 
 // A name in force, with the place of its binder, and whether it was used.
-#[derive(Clone, Copy)]
+#[derive(Drop)]
 pub struct InForce {
     pub place: usize,
     pub name: Name,
