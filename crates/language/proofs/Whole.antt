@@ -60,11 +60,11 @@ module _ (subs : List Subterm) (cells : List TypeCell) (root : ℕ) (m : Checker
 
   -- refused before the program's own type is asked
   pub whole_stop : (m' : Checker) (z : Refusal) → Checks subs root m m' (Err z) → (t : Tree ℕ) → Denotes subs cells root t → Spans subs cells 0 root t → numbered t (infer nobody t) ≡ Err z
-  whole_stop m' z h t d sp = ap (numbered t) (h t nobody (at_begin t d) knows_nobody)
+  whole_stop m' z h t d sp = ap (numbered t) (h.outcome t nobody (at_begin t d) knows_nobody)
 
   module _ (m' : Checker) (c : ℕ) (h : Checks subs root m m' (Ok c)) where
     typed : (t : Tree ℕ) → Denotes subs cells root t → Typed subs t nobody m m' c
-    typed t d = h t nobody (at_begin t d) knows_nobody
+    typed t d = h.outcome t nobody (at_begin t d) knows_nobody
 
     pub whole_type : Given subs cells root → IsType (cells_of m') c
     whole_type g = (type_of nobody g.tree, (typed g.tree g.denotes).denotes)

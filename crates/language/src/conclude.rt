@@ -12,6 +12,7 @@ ghost use Rattle.language.specs.Counts.{Countable, Limited};
 ghost use Rattle.language.specs.Accepts.{Numbers, Given, Concludes};
 
 use crate::checker::Checker;
+use crate::context::Context;
 use crate::counts::Facts;
 use crate::facts::facts;
 use crate::table::TypeTable;
@@ -21,15 +22,13 @@ use syntax::refusal::{Fault, Refusal};
 
 const SUBTERMS: usize = 2048;
 
-const HYPOTHESES: usize = 4096;
-
 const ITERATORS: usize = 64;
 
 impl Checker {
-    pub fn new(heap: Global) -> Result<Checker, AllocError> {
+    pub(crate) fn new(heap: Global) -> Result<Checker, AllocError> {
         let types = TypeTable::new(heap)?;
         let typings = Vec::with_capacity(heap, SUBTERMS)?;
-        let context = Vec::with_capacity(heap, HYPOTHESES)?;
+        let context = Context::new(heap)?;
         Ok(Checker {
             types,
             typings,
@@ -83,7 +82,7 @@ impl Checker {
     }
 
     // Has the program types, is its own N, and are its iterators few?
-    pub fn conclude(
+    pub(crate) fn conclude(
         &mut self,
         subs: &[Subterm],
         cells: &[TypeCell],

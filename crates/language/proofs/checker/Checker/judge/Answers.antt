@@ -1,6 +1,6 @@
 use Rattle.std.proofs.Common.{refl, ap, ◌∙◌}
 use Rattle.language.specs.Checks.{cells_of}
-use Rattle.language.proofs.Rules.{low_enough, too_high}
+use Rattle.language.proofs.Heights.{low_enough, too_high}
 use Rattle.language.proofs.checker.Checker.judge.Goals as goal
 
 pub returns-then-measure-gt-HIGHEST : goal.returns-then-measure-gt-HIGHEST

@@ -1,19 +1,13 @@
--- The typing rules, on cells.
-use Rattle.std.proofs.Common.{◌≡◌, ℕ, ◌-◌, ◌^◌, ◌<◌, ◌≤◌, min, true, false, cond, eqb, leb, List, [], ◌∷◌, ◌++◌, Ok, Err, sym, refl, subst, arith}
+-- The height that is kept beside a cell, and the limit on it.
+use Rattle.std.proofs.Common.{◌≡◌, ℕ, ◌-◌, ◌^◌, ◌<◌, ◌≤◌, min, true, false, cond, leb, List, Ok, Err, sym, refl, subst, arith}
 use Rattle.std.proofs.lemmas.Bool.Decides.{nat_tests}
 use Rattle.calculus.specs.Types.{Ty, ◌⇒◌, ◌⊗◌, height}
 use Rattle.syntax.specs.declared.program.TypeCell.{TypeCell}
 use Rattle.syntax.specs.declared.refusal.Fault.TheVariants.{HighType}
 use Rattle.syntax.specs.Program.{DenotesType}
-use Rattle.language.specs.declared.checker.Hypothesis.{Hypothesis}
 use Rattle.language.specs.Infer.{good, bad, within}
 use Rattle.language.specs.Measures.{measure_of}
-use Rattle.language.specs.Checks.{Agrees, cell_of}
-
--- one more hypothesis
-pub cell_of_push : (d : ℕ) (hs : List Hypothesis) (h : Hypothesis) (b : ℕ) → cell_of d (hs ++ (h ∷ [])) b ≡ cond (eqb h.binder b) h.cell (cell_of d hs b)
-cell_of_push d [] h b = refl
-cell_of_push d (g ∷ hs) h b = cell_of_push (cond (eqb g.binder b) g.cell d) hs h b
+use Rattle.language.specs.Checks.{Agrees}
 
 -- the height that is kept beside a cell
 pub kept_height : (A : Ty) → (measure_of A).height ≡ min (height A) (2 ^ 64 - 1)
