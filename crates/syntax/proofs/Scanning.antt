@@ -4,7 +4,6 @@ use Rattle.std.specs.List.{prefix_len}
 use Rattle.std.proofs.lemmas.Slice.Eq.{bytes_eq-Decides}
 use Rattle.std.proofs.lemmas.List.{take_more}
 use Rattle.std.proofs.lemmas.Bool.{eq-eqb, ne_eqb, and_parts, leb-true}
-use Rattle.std.proofs.lemmas.Bool.Decides.{nat_tests}
 use Rattle.syntax.specs.declared.refusal.Fault.TheVariants.{WrongSign}
 use Rattle.syntax.specs.Signs.{Sign, word, digits, mark, Placed, letter, digit, lex, is_let, is_in, is_iter, is_name, is_number, number_after, number_of}
 use Rattle.syntax.specs.Parse.{got, refuse, expect, is_mark, is_word_in, binder}

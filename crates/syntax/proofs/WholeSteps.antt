@@ -1,10 +1,10 @@
 -- What reading a whole text gives, step by step.
-use Rattle.std.proofs.Common.{◌≡◌, ℕ, ◌+◌, ◌-◌, ◌<◌, ◌≤◌, List, [], ◌∷◌, length, Some, None, Ok, Err, vec_items, Option, sym, refl, ap, ◌∙◌, arith}
-use Rattle.std.proofs.lemmas.Bool.{le-leb, lt-leb}
+use Rattle.std.proofs.Common.{◌≡◌, ℕ, ◌+◌, ◌-◌, ◌≤◌, List, [], ◌∷◌, length, Some, None, Ok, Err, vec_items, Option, sym, refl, ap, ◌∙◌, arith}
+use Rattle.std.proofs.lemmas.Bool.{le-leb}
 use Rattle.syntax.specs.declared.names.Rest.{Rest}
 use Rattle.syntax.specs.declared.program.Subterm.{Subterm}
 use Rattle.syntax.specs.declared.program.TypeCell.{TypeCell}
-use Rattle.syntax.specs.declared.refusal.Fault.TheVariants.{TooLong, WrongSign}
+use Rattle.syntax.specs.declared.refusal.Fault.TheVariants.{WrongSign}
 use Rattle.syntax.specs.declared.refusal.Refusal.{Refusal}
 use Rattle.syntax.specs.declared.scope.Scope.{Scope}
 use Rattle.syntax.specs.declared.tables.Program.{Program}
