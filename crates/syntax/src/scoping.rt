@@ -109,7 +109,7 @@ impl Scope {
 }
 
 // Puts the height of the names in force back on every way out.
-pub struct Guard<'a>(pub &'a mut Scope, pub usize);
+pub(crate) struct Guard<'a>(pub(crate) &'a mut Scope, pub(crate) usize);
 
 impl Drop for Guard<'_> {
     fn drop(self)
