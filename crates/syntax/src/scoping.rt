@@ -19,13 +19,11 @@ fn copied(word: &[u8]) -> Name
 }
 
 // The one that goes first, of a refusal and perhaps another.
+#[tactic(auto, using(crate::proofs::Order::less_before))]
 fn sooner(a: Refusal, other: Option<Refusal>) -> Option<Refusal>
     ensures { result ≡ soonest a other }
 {
-    match other {
-        None => Some(a),
-        Some(b) => Some(b.min(a)),
-    }
+    Some(other.map_or(a, |b| b.min(a)))
 }
 
 impl Scope {
