@@ -5,7 +5,6 @@ pub mod TypeSteps
 mod Order
 pub mod NameSteps
 pub mod FirstSteps
-pub mod HeadSteps
 pub mod TermSteps
 pub mod ReadSteps
 pub mod Readings

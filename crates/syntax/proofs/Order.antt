@@ -37,5 +37,5 @@ same_number ManyIterators = refl
 faults : (f g : Fault) → of_faults.cmp-value.it f g ≡ int_cmp (pos (number f)) (pos (number g))
 faults f g = ap (λ x. int_cmp x (declared_number g)) (same_number f) ∙ ap (int_cmp (pos (number f))) (same_number g)
 
-pub less-before : (a b : Refusal) → is_lt (of_refusals.cmp-value.it a b) ≡ before a b
-less-before a b = ap (λ o. is_lt (ordering_then (nat_cmp a.place b.place) o)) (faults a.fault b.fault) ∙ by_number a.place b.place (number a.fault) (number b.fault)
+pub less_before : (a b : Refusal) → is_lt (of_refusals.cmp-value.it a b) ≡ before a b
+less_before a b = ap (λ o. is_lt (ordering_then (nat_cmp a.place b.place) o)) (faults a.fault b.fault) ∙ by_number a.place b.place (number a.fault) (number b.fault)

@@ -2,17 +2,16 @@
 use Rattle.std.proofs.Common.{◌≡◌, ℕ, suc, ◌+◌, ◌-◌, ◌<◌, ◌≤◌, Bool, true, false, ◌⊎◌, List, length, get_or, Some, None, Ok, Err, sym, refl, ap, ◌∙◌, subst, inl, inr, arith}
 use lib.Seq.{map-set_same}
 use Rattle.std.proofs.lemmas.Bool.{cases_lt, lt-ltb, le-ltb}
-use Rattle.calculus.specs.Types.{Ty}
 use Rattle.syntax.specs.declared.names.First.{First}
 use Rattle.syntax.specs.declared.names.Rest.{Rest}
 use Rattle.syntax.specs.declared.program.Subterm.{Subterm}
 use Rattle.syntax.specs.declared.program.TypeCell.{TypeCell}
 use Rattle.syntax.specs.declared.refusal.Fault.TheVariants.{WrongSign, PassedLimit, Unbound}
 use Rattle.syntax.specs.declared.refusal.Refusal.{Refusal}
-use Rattle.syntax.specs.Trees.{Name, Binder, Tree, succ, lam, app, pair, split, iter}
+use Rattle.syntax.specs.Trees.{Name, Tree}
 use Rattle.syntax.specs.Names.{fault}
 use Rattle.syntax.specs.Signs.{Placed, lex}
-use Rattle.syntax.specs.Parse.{Out, got, refused, refuse, expect, is_mark, is_word_in, function_head, let_head, TermReader, successor, function, application, couple, let_in, iterator, term_by, term}
+use Rattle.syntax.specs.Parse.{refused, refuse, term_by, term}
 use Rattle.syntax.specs.Scopes.{InForce, Names, found, nobody, note, use_at, occur}
 use Rattle.syntax.specs.Held.{binders_of}
 use Rattle.syntax.specs.Steps.{skipped, by_first, Opens, TermHeld}

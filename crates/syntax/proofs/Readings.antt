@@ -1,5 +1,5 @@
 -- What the readers of terms do, in the words of their contracts.
-use Rattle.std.proofs.Common.{◌≡◌, ℕ, suc, ◌+◌, ◌*◌, ◌≤◌, false, List, [], ◌∷◌, length, take, Ok, Err, vec_items, Result, sym, refl, ap, ◌∙◌, subst, subst₂, arith, length-append, Bor}
+use Rattle.std.proofs.Common.{◌≡◌, ℕ, suc, ◌+◌, false, List, [], ◌∷◌, length, take, Ok, Err, vec_items, Result, sym, refl, ap, ◌∙◌, subst, arith, length-append, Bor}
 use lib.ListN.{length-map}
 use Rattle.syntax.specs.declared.names.First.{First}
 use Rattle.syntax.specs.declared.names.First.TheVariants as first
@@ -14,16 +14,16 @@ use Rattle.syntax.specs.declared.refusal.Refusal.{Refusal}
 use Rattle.syntax.specs.declared.scope.Scope.{Scope}
 use Rattle.syntax.specs.declared.tables.Program.{Program}
 use Rattle.syntax.specs.Trees.{Name, Binder, Tree, occ, num, lam}
-use Rattle.syntax.specs.Signs.{lex}
+use Rattle.syntax.specs.Signs.{Placed, lex}
 use Rattle.syntax.specs.Parse.{Out, got, expect, is_mark, is_word_in, function_head, let_head}
 use Rattle.syntax.specs.Names.{binder_of}
 use Rattle.syntax.specs.Layout.{push}
 use Rattle.syntax.specs.Scopes.{InForce, Names, declare, enter, occur}
 use Rattle.syntax.specs.Held.{spelled, name_in_force, names_of, binders_of}
-use Rattle.syntax.specs.Steps.{Gives, Passes, binder_at, HeadHeld, TermHeld, Room, HasRoom, begun, signed, in_force_in, IsPut, TermRead, IsCounted, part_of, Follows, BodyRead}
+use Rattle.syntax.specs.Steps.{Gives, Passes, binder_at, HeadHeld, TermHeld, begun, signed, in_force_in, IsPut, TermRead, IsCounted, part_of, Follows, BodyRead}
 use Rattle.std.proofs.lemmas.List.{take-map}
 use Rattle.syntax.proofs.ReadSteps.{held_as, held_from, occur_bound, occur_kept}
-use Rattle.syntax.proofs.TermSteps.{left_over, entered, entered_two, force_length, room_body, room_pair, room_let, room_next, held_leaf, held_succ, held_app, held_pair, held_iter, held_function, held_let, visit_occ, visit_num}
+use Rattle.syntax.proofs.TermSteps.{left_over, entered, entered_two, force_length, held_leaf, held_succ, held_app, held_pair, held_iter, held_function, held_let, visit_occ, visit_num}
 
 abbrev subs : Program → List Subterm
 subs P = vec_items P.subterms
@@ -65,10 +65,6 @@ sign_as s rest {f} {g} {P} {P₁} {S} {S₁} {r} e x = subst (λ (q : First). Fo
 -- a part of the sub-term that begins at s was read
 abbrev Part : ℕ → Start → List ℕ → Program → Scope → Program → Scope → ℕ × Rest → Type 0
 Part end s text P S P₁ S₁ r = TermRead end (s.depth + 1) P S P₁ S₁ (part_of end s (begun (s.depth + 1) P) (signed P) (lex end text)) (Ok r)
-
--- then there is room for the next one
-pub next-room : {end d : ℕ} {P P₁ : Program} {S S₁ : Scope} {o : Out (Tree Name × ℕ × ℕ)} {r : ℕ × Rest} → TermRead end d P S P₁ S₁ o (Ok r) → length (names_of S).force ≤ 2 * d → HasRoom d P₁ S₁
-next-room {end} {d} {P} {P₁} {S} {S₁} {o} {r} x h = room_next d (subs P) (cells P) (names_of S) (subs P₁) (cells P₁) (names_of S₁) x.gives.0 r.0 x.gives.2 x.kept h
 
 -- the whole is put after its parts
 whole : (end : ℕ) (s : Start) {P P₁ P₂ : Program} {S S₁ : Scope} {names : Names} {shape : Shape} {a : Tree Name × ℕ × ℕ} {o : Out (Tree Name × ℕ × ℕ)} {i : ℕ} {rest : Rest} → o ≡ got a (lex end rest.bytes.now) → TermHeld s.depth (subs P) (cells P) (names_of S) (push s.place shape (subs P₁)) (cells P₁) names a (length (subs P₁)) → IsPut s.place shape P₁ P₂ i → names_of S₁ ≡ names → in_force_in S₁ ≡ in_force_in S → rest.end ≡ end → TermRead end s.depth P S P₂ S₁ o (Ok (i, rest))
@@ -113,11 +109,6 @@ module _ (s : Start) (rest : Rest) {P P₁ : Program} {S S₁ : Scope} {r₁ : �
         (held_iter s.depth (subs P) (cells P) (names_of S) s.place (subs P₁) (cells P₁) (names_of S₁) x.gives.0 r₁.0 x.gives.2 (subs P₂) (cells P₂) (names_of S₂) y.gives.0 r₂.0 y.gives.2 x.kept (subs P₃) (cells P₃) (names_of S₃) z.gives.0 r₃.0 z.gives.2 y.kept) q refl (z.kept ∙ y.kept ∙ x.kept) z.gives.3
 
 -- functions: the type of the head was put, and its name is in force in the body
-pub function-room : (s : Start) (P P₁ : Program) (S S₂ : Scope) (f : Binder) → IsCounted s P S → names_of S₂ ≡ enter f (declare f (names_of S)) → subs P₁ ≡ subs P → length (cells P₁) ≤ 2048 → HasRoom (s.depth + 1) P₁ S₂
-function-room s P P₁ S S₂ f c inside same h =
-    let room = room_body s.depth (subs P) (cells P) (names_of S) c.room c.few f (cells P₁) h in
-    subst₂ (λ (l : List Subterm) (n : Names). Room (s.depth + 1) l (cells P₁) n) (sym same) (sym inside) room
-
 module _ (s : Start) (rest : Rest) (P P₁ : Program) (S S₂ : Scope) (h : ℕ) (head : Head) (r : Rest) (inside : names_of S₂ ≡ enter (binder_at head.binder) (declare (binder_at head.binder) (names_of S))) (high : h ≡ length (names_of S).force) where
   abbrev f : Binder
   f = binder_at head.binder
@@ -138,9 +129,6 @@ module _ (s : Start) (rest : Rest) (P P₁ : Program) (S S₂ : Scope) (h : ℕ)
     signs : w.0.2 ≡ signed P₁
     signs = omega (arith, w.2.type.counted)
 
-    pub function_stopped : {P₂ : Program} {S₃ : Scope} {e : Refusal} → BodyRead rest.end s h r.bytes.now P₁ S₂ P₂ S₃ (Err e) → Follows first.Function s rest P S P₂ S₃ (Err e)
-    function_stopped y = record { gives = rw (w.1, deeper, signs, y.gives) refl; kept = kept y }
-
     pub function_follows : {P₂ P₃ : Program} {S₃ : Scope} {r₂ : ℕ × Rest} {i : ℕ} → BodyRead rest.end s h r.bytes.now P₁ S₂ P₂ S₃ (Ok r₂) → IsPut s.place (Function head.binder.place head.annotation r₂.0) P₂ P₃ i → Follows first.Function s rest P S P₃ S₃ (Ok (i, r₂.1))
     function_follows {P₂} {P₃} {S₃} {r₂} y q =
         let b = y.gives.0 in
@@ -151,20 +139,16 @@ module _ (s : Start) (rest : Rest) (P P₁ : Program) (S S₂ : Scope) (h : ℕ)
         whole rest.end s (rw (w.1, deeper, signs, y.gives.1) (ap (λ (z : Binder). got (lam s.place z T b.0, b.1, b.2) (lex rest.end r₂.1.bytes.now)) w.2.binder.is))
         (held_function s.depth (subs P) (cells P) (names_of S) s.place f T head.annotation (cells P₁) (subs P₂) (cells P₂) x.late b r₂.0 w.2.type.put w.2.type.at body h high) q x.left (kept y) y.gives.3
 
+-- two binders that were read, in the words of the contracts
+pub both_read : {o : Out (Binder × Binder)} {a : Binder × Binder} {f g : Binder} {r : List Placed} → o ≡ got a r → a.0 ≡ f → a.1 ≡ g → o ≡ got (f, g) r
+both_read {r = r} e x y = e ∙ (λ i. got (x i, y i) r)
+
 -- lets: both names are bound before the pair is read, and in force in the body
 module _ (s : Start) (rest : Rest) (P : Program) (S S₂ : Scope) (f g : Binder) (both : names_of S₂ ≡ declare g (declare f (names_of S))) where
-  pub pair_room : IsCounted s P S → HasRoom (s.depth + 1) P S₂
-  pair_room c = subst (λ (n : Names). Room (s.depth + 1) (subs P) (cells P) n) (sym both) (room_pair s.depth (subs P) (cells P) (names_of S) c.room c.few f g)
-
   pub pair_kept : (S₃ : Scope) → in_force_in S₃ ≡ in_force_in S₂ → in_force_in S₃ ≡ in_force_in S
   pair_kept S₃ k = k ∙ ap (λ (n : Names). binders_of n.force) both
 
   module _ (t : List ℕ) {P₁ : Program} {S₃ : Scope} {r₁ : ℕ × Rest} (x : Part rest.end s t P S₂ P₁ S₃ r₁) (S₅ : Scope) (inside : names_of S₅ ≡ enter g (enter f (names_of S₃))) where
-    pub let_room : IsCounted s P S → HasRoom (s.depth + 1) P₁ S₅
-    let_room c =
-        let h = x.gives.2 in
-        subst (λ (n : Names). Room (s.depth + 1) (subs P₁) (cells P₁) n) (sym inside) (room_let s.depth (subs P₁) (cells P₁) (names_of S₃) f g (omega (arith, h.counted, h.few)) (omega (arith, h.signs, h.few_signs)) h.bound (omega (arith, force_length (names_of S) (names_of S₃) (pair_kept S₃ x.kept), c.room.force)))
-
     module _ (h : ℕ) (u : Rest) (high : h ≡ length (names_of S₃).force) (head : let_head rest.end (lex rest.end rest.bytes.now) ≡ got (f, g) (lex rest.end t)) (z : Passes rest.end (expect rest.end is_word_in (lex rest.end r₁.1.bytes.now)) (Ok u)) where
       kept_let : {P₂ : Program} {S₆ : Scope} {r₂ : Result (ℕ × Rest) Refusal} → BodyRead rest.end s h u.bytes.now P₁ S₅ P₂ S₆ r₂ → in_force_in S₆ ≡ in_force_in S
       kept_let y = y.kept ∙ left_over h (names_of S₃).force (in_force_in S₅) (f ∷ g ∷ []) high (ap (λ (n : Names). binders_of n.force) inside ∙ entered_two f g (names_of S₃)) ∙ pair_kept S₃ x.kept

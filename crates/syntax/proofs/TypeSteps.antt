@@ -1,5 +1,5 @@
 -- What reading a type gives, step by step.
-use Rattle.std.proofs.Common.{◌≡◌, ℕ, suc, ◌+◌, ◌-◌, ◌<◌, ◌≤◌, Bool, true, false, ltb, ◌⊎◌, List, [], ◌∷◌, ◌++◌, length, get_or, take, drop, Ok, Result, sym, refl, ap, ◌∙◌, subst, subst₂, inl, inr, arith, length-append, vec_items}
+use Rattle.std.proofs.Common.{◌≡◌, ℕ, suc, ◌+◌, ◌-◌, ◌<◌, ◌≤◌, Bool, true, false, ltb, ◌⊎◌, List, [], ◌∷◌, length, get_or, take, drop, refl, ap, ◌∙◌, inl, inr, arith, length-append, vec_items}
 use Rattle.std.proofs.lemmas.Bool.{ne_eqb, cases_lt}
 use Rattle.std.proofs.lemmas.Bool.Decides.{nat_tests}
 use Rattle.calculus.specs.Types.{Ty, N}
@@ -8,7 +8,7 @@ use Rattle.syntax.specs.declared.program.TypeCell.TheVariants as cell
 use Rattle.syntax.specs.declared.signs.Joint.{Joint}
 use Rattle.syntax.specs.declared.signs.Joint.TheVariants.{Arrow, Product}
 use Rattle.syntax.specs.Signs.{word, digits, mark, Placed, letter, digit, lex}
-use Rattle.syntax.specs.Parse.{Out, got, refused, refuse, limited, expect, is_mark, joint, join, joined, TypeReader, type_by, type}
+use Rattle.syntax.specs.Parse.{Out, got, refuse, limited, joint, join, joined, TypeReader, type_by, type}
 use Rattle.syntax.specs.declared.tables.Program.{Program}
 use Rattle.syntax.specs.Steps.{skipped, run, cell_of, IsTypePut, TypeHeld}
 use Rattle.syntax.proofs.Lexing.{front_at, first_sign, after_first, signs_from, signs_none}

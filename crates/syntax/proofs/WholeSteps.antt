@@ -1,10 +1,10 @@
 -- What reading a whole text gives, step by step.
-use Rattle.std.proofs.Common.{◌≡◌, ℕ, ◌+◌, ◌-◌, ◌<◌, ◌≤◌, List, [], ◌∷◌, length, Some, None, Ok, Err, vec_items, Option, sym, refl, ap, ◌∙◌, arith}
-use Rattle.std.proofs.lemmas.Bool.{le-leb, lt-leb}
+use Rattle.std.proofs.Common.{◌≡◌, ℕ, ◌+◌, ◌-◌, ◌≤◌, List, [], ◌∷◌, length, Some, None, Ok, Err, vec_items, Option, sym, refl, ap, ◌∙◌, arith}
+use Rattle.std.proofs.lemmas.Bool.{le-leb}
 use Rattle.syntax.specs.declared.names.Rest.{Rest}
 use Rattle.syntax.specs.declared.program.Subterm.{Subterm}
 use Rattle.syntax.specs.declared.program.TypeCell.{TypeCell}
-use Rattle.syntax.specs.declared.refusal.Fault.TheVariants.{TooLong, WrongSign}
+use Rattle.syntax.specs.declared.refusal.Fault.TheVariants.{WrongSign}
 use Rattle.syntax.specs.declared.refusal.Refusal.{Refusal}
 use Rattle.syntax.specs.declared.scope.Scope.{Scope}
 use Rattle.syntax.specs.declared.tables.Program.{Program}
@@ -27,9 +27,6 @@ start end s subs cells o x y h = rw (x, y) at h
 
 pub held_start : (subs₀ : List Subterm) (cells₀ : List TypeCell) (names₀ : Names) (subs : List Subterm) (cells : List TypeCell) (names : Names) (a : Tree Name × ℕ × ℕ) (i : ℕ) → subs₀ ≡ [] → cells₀ ≡ [] → names₀ ≡ no_names → TermHeld 0 subs₀ cells₀ names₀ subs cells names a i → TermHeld 0 [] [] no_names subs cells names a i
 held_start subs₀ cells₀ names₀ subs cells names a i x y z h = rw (x, y, z) at h
-
-pub too_long : (text : List ℕ) → 16384 < length text → reads text ≡ Err (fault TooLong 0)
-too_long text h = let e = lt-leb (length text) 16384 h in rw e refl
 
 module _ (text : List ℕ) (short : length text ≤ 16384) where
   within : reads text ≡ named (whole (length text) (signs_of text))

@@ -19,13 +19,11 @@ fn copied(word: &[u8]) -> Name
 }
 
 // The one that goes first, of a refusal and perhaps another.
+#[tactic(auto, using(crate::proofs::Order::less_before))]
 fn sooner(a: Refusal, other: Option<Refusal>) -> Option<Refusal>
     ensures { result ≡ soonest a other }
 {
-    match other {
-        None => Some(a),
-        Some(b) => Some(b.min(a)),
-    }
+    Some(other.map_or(a, |b| b.min(a)))
 }
 
 impl Scope {
@@ -109,7 +107,7 @@ impl Scope {
 }
 
 // Puts the height of the names in force back on every way out.
-pub struct Guard<'a>(pub &'a mut Scope, pub usize);
+pub(crate) struct Guard<'a>(pub(crate) &'a mut Scope, pub(crate) usize);
 
 impl Drop for Guard<'_> {
     fn drop(self)

@@ -1,13 +1,11 @@
-use Rattle.std.proofs.Common.{◌≡◌, ◌+◌, ◌<◌, ◌≤◌, ◌⊎◌, length, vec_items, sym, refl, ap, ◌∙◌, inl, inr, arith, rules}
+use Rattle.std.proofs.Common.{◌≡◌, ◌<◌, ◌≤◌, ◌⊎◌, length, sym, refl, ap, ◌∙◌, inl, inr, arith}
 use Rattle.std.proofs.lemmas.Result.{err_from_is_err_and}
-use Rattle.syntax.specs.Parse.{refused}
 use Rattle.syntax.specs.Scopes.{Names, declare, enter, shut}
 use Rattle.syntax.specs.Held.{names_of, binders_of}
 use Rattle.syntax.specs.Steps.{binder_at, begun, signed}
 use Rattle.syntax.proofs.Lexing.{skipped_twice}
-use Rattle.syntax.proofs.HeadSteps.{both_read}
 use Rattle.syntax.proofs.ReadSteps.{first_refused, first_full, first_read}
-use Rattle.syntax.proofs.Readings.{bound_count, force_count, declared_bound, declared_force, entered_force, kept_force, shut_kept, read_as, sign_as, next-room, name_follows, number_follows, succ_follows, app_follows, pair_follows, iter_follows, function-room, function_stopped, function_follows, pair_room, let_room, let_stopped, let_follows}
+use Rattle.syntax.proofs.Readings.{force_count, shut_kept, read_as, sign_as, name_follows, number_follows, succ_follows, app_follows, pair_follows, iter_follows, function_follows, both_read, let_stopped, let_follows}
 use Rattle.syntax.proofs.terms.+after_first_application_body_function_iterator_let_in_pair_successor_term.Goals as goal
 use Rattle.syntax.proofs.terms.+after_first_application_body_function_iterator_let_in_pair_successor_term.Goals.{term-then-depth-ge-DEPTH-via-then-depth-ge-DEPTH, term-then-depth-ge-DEPTH-via-else-depth-ge-DEPTH+then-len-depth-ge-SUBTERMS}
 
@@ -51,18 +49,12 @@ after_first-returns-in-Number t c =
 pub successor-returns : goal.successor-returns
 successor-returns t c = succ_follows c.args.at c.args.rest c.in_ok-body.ensures c.put.ensures
 
-pub application-term-requires-2 : goal.application-term-requires-2
-application-term-requires-2 t c = (search rules, next-room c.in_ok-function.ensures (omega (arith, c.requires.room.force)))
-
 pub application-returns : goal.application-returns
 application-returns t c =
     let x = c.in_ok-function.ensures in
     let y = rw x.gives.3 at c.in_ok-argument.ensures in
     let z = rw y.gives.3 at c.in_ok-rest.ensures in
     app_follows c.args.at c.args.rest x c.in_ok-rest.rest y z c.put.ensures
-
-pub pair-term-requires-2 : goal.pair-term-requires-2
-pair-term-requires-2 t c = (search rules, next-room c.in_ok-first.ensures (omega (arith, c.requires.room.force)))
 
 pub pair-returns : goal.pair-returns
 pair-returns t c =
@@ -71,14 +63,6 @@ pair-returns t c =
     let y = rw w.1 at c.in_ok-second.ensures in
     let z = rw y.gives.3 at c.in_ok-rest-2.ensures in
     pair_follows c.args.at c.args.rest x c.in_ok-rest.rest c.in_ok-rest-2.rest w y z c.put.ensures
-
-pub iterator-term-requires-2 : goal.iterator-term-requires-2
-iterator-term-requires-2 t c = (search rules, next-room c.in_ok-count.ensures (omega (arith, c.requires.room.force)))
-
-pub iterator-term-requires-3 : goal.iterator-term-requires-3
-iterator-term-requires-3 t c =
-    let room = next-room c.in_ok-count.ensures (omega (arith, c.requires.room.force)) in
-    (search rules, next-room c.in_ok-step.ensures room.force)
 
 pub iterator-returns : goal.iterator-returns
 iterator-returns t c =
@@ -102,38 +86,6 @@ body-returns t c =
       kept = ap (λ (n : Names). binders_of n.force) left ∙ shut_kept c.args.before late c.args.scope.now c.term.ensures.kept;
     }
 
-pub function-declare-requires : goal.function-declare-requires
-function-declare-requires t c =
-    record { room = omega (arith, bound_count c.args.scope.now, c.requires.room.bound, c.requires.few); short = c.in_ok-head.ensures.2.binder.short }
-
-pub function-enter-requires : goal.function-enter-requires
-function-enter-requires t c =
-    record { room = omega (arith, declared_force _ c.args.scope.now c.declare.new.self c.declare.ensures, force_count c.args.scope.now, c.requires.room.force, c.requires.deep); short = c.in_ok-head.ensures.2.binder.short }
-
-pub function-body-requires : goal.function-body-requires
-function-body-requires t c =
-    let f = binder_at c.in_ok-head.head.binder in
-    let x = c.in_ok-head.ensures in
-    let S = c.args.scope.now in (
-      search rules,
-      (
-        c.requires.deep,
-        (
-          function-room c.args.at c.args.program.now c.function_head.new.program S c.enter.new.self f c.requires (c.enter.ensures ∙ ap (enter f) c.declare.ensures) x.2.type.subterms (omega (arith, x.2.type.counted, x.2.type.few)),
-          omega (arith, c.len-before.ensures, S.in_force.ok.0, declared_force f S c.declare.new.self c.declare.ensures, entered_force f c.declare.new.self c.enter.new.self c.enter.ensures),
-        ),
-      ),
-    )
-
-pub function-returns-in_err-body : goal.function-returns-in_err-body
-function-returns-in_err-body t c =
-    let f = binder_at c.in_ok-head.head.binder in
-    let S = c.args.scope.now in
-    let x = c.in_ok-head.ensures in
-    let high : c.len-before.result ≡ length (names_of S).force = omega (arith, c.len-before.ensures, S.in_force.ok.0, force_count S) in
-    let q = err_from_is_err_and c.from_residual-in_err-body.result c.from_residual-in_err-body.ensures.1 in
-    rw (q.1, q.2) (function_stopped c.args.at c.args.rest c.args.program.now _ S c.enter.new.self c.len-before.result c.in_ok-head.head c.in_ok-head.rest (c.enter.ensures ∙ ap (enter f) c.declare.ensures) high x (rw x.3 at c.in_err-body.ensures))
-
 pub function-returns : goal.function-returns
 function-returns t c =
     let f = binder_at c.in_ok-head.head.binder in
@@ -141,50 +93,6 @@ function-returns t c =
     let x = c.in_ok-head.ensures in
     let high : c.len-before.result ≡ length (names_of S).force = omega (arith, c.len-before.ensures, S.in_force.ok.0, force_count S) in
     function_follows c.args.at c.args.rest c.args.program.now _ S c.enter.new.self c.len-before.result c.in_ok-head.head c.in_ok-head.rest (c.enter.ensures ∙ ap (enter f) c.declare.ensures) high x (rw x.3 at c.in_ok-body.ensures) c.put.ensures
-
-pub let_in-declare-requires : goal.let_in-declare-requires
-let_in-declare-requires t c =
-    record { room = omega (arith, bound_count c.args.scope.now, c.requires.room.bound, c.requires.few); short = c.in_ok-first.ensures.2.0.short }
-
-pub let_in-declare-requires-2 : goal.let_in-declare-requires-2
-let_in-declare-requires-2 t c =
-    record { room = omega (arith, declared_bound _ c.args.scope.now c.declare.new.self c.declare.ensures, bound_count c.args.scope.now, c.requires.room.bound, c.requires.few); short = c.in_ok-first.ensures.2.1.short }
-
-pub let_in-term-requires : goal.let_in-term-requires
-let_in-term-requires t c =
-    let f = binder_at c.in_ok-first.first in
-    let g = binder_at c.in_ok-first.second in
-    (search rules, pair_room c.args.at c.args.rest c.args.program.now c.args.scope.now c.declare-2.new.self f g (c.declare-2.ensures ∙ ap (declare g) c.declare.ensures) c.requires)
-
-pub let_in-enter-requires : goal.let_in-enter-requires
-let_in-enter-requires t c =
-    let S = c.args.scope.now in
-    let S₂ = c.declare-2.new.self in
-    let same = kept_force S₂ c.term.new.scope c.in_ok-pair.ensures.kept in
-    record { room = omega (arith, same, declared_force _ S c.declare.new.self c.declare.ensures, declared_force _ c.declare.new.self S₂ c.declare-2.ensures, force_count S, c.requires.room.force, c.requires.deep); short = c.in_ok-first.ensures.2.0.short }
-
-pub let_in-enter-requires-2 : goal.let_in-enter-requires-2
-let_in-enter-requires-2 t c =
-    let S = c.args.scope.now in
-    let S₂ = c.declare-2.new.self in
-    let same = kept_force S₂ c.term.new.scope c.in_ok-pair.ensures.kept in
-    record { room = omega (arith, same, declared_force _ S c.declare.new.self c.declare.ensures, declared_force _ c.declare.new.self S₂ c.declare-2.ensures, entered_force _ c.term.new.scope c.enter.new.self c.enter.ensures, force_count S, c.requires.room.force, c.requires.deep); short = c.in_ok-first.ensures.2.1.short }
-
-pub let_in-body-requires : goal.let_in-body-requires
-let_in-body-requires t c =
-    let f = binder_at c.in_ok-first.first in
-    let g = binder_at c.in_ok-first.second in
-    let x = rw c.in_ok-first.ensures.3 at c.in_ok-pair.ensures in
-    let S₃ = c.term.new.scope in (
-      search rules,
-      (
-        c.requires.deep,
-        (
-          let_room c.args.at c.args.rest c.args.program.now c.args.scope.now c.declare-2.new.self f g (c.declare-2.ensures ∙ ap (declare g) c.declare.ensures) c.in_ok-first.rest.bytes.now x c.enter-2.new.self (c.enter-2.ensures ∙ ap (enter g) c.enter.ensures) c.requires,
-          omega (arith, c.len-before.ensures, S₃.in_force.ok.0, entered_force f S₃ c.enter.new.self c.enter.ensures, entered_force g c.enter.new.self c.enter-2.new.self c.enter-2.ensures),
-        ),
-      ),
-    )
 
 pub let_in-returns-in_err-body : goal.let_in-returns-in_err-body
 let_in-returns-in_err-body t c =

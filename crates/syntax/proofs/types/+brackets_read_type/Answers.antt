@@ -1,5 +1,4 @@
 use Rattle.std.proofs.Common.{◌≡◌, suc, ◌+◌, ◌<◌, ◌≤◌, ◌⊎◌, length, get_or, vec_items, refl, inl, inr, arith, rules}
-use Rattle.std.proofs.lemmas.Result.{err_from_is_err_and}
 use Rattle.calculus.specs.Types.{N}
 use Rattle.syntax.specs.Parse.{join}
 use Rattle.syntax.proofs.TypeSteps.{type_n, type_n_full, type_open, type_open_full, type_other, held-join, held_n}
@@ -45,35 +44,6 @@ read_type-returns-in_default t c =
     λ h. elim c.in_default.branch [ read_type-in_default-via-then-rest-lt1 w ↦ absurd (search rules) | read_type-in_default-via-else-rest-lt1+in_default-1 w ↦ (λ x. search rules, λ x. search rules) ] in
     let e = type_other c.args.rest.end c.args.rest.bytes.now rest c.skip-rest.ensures.bytes c.args.depth n none in
     cc
-
-pub brackets-returns-in_err-joint : goal.brackets-returns-in_err-joint
-brackets-returns-in_err-joint t c =
-    let x = c.in_ok-first.ensures in
-    let n : x.0.1 ≡ c.len.result + c.args.«open» = omega (arith, c.len.ensures, x.2.counted, c.read_type.new.program.types.ok.0) in
-    let j = rw x.3 at c.in_err-joint.ensures in
-    let p = err_from_is_err_and c.from_residual-in_err-joint.result c.from_residual-in_err-joint.ensures.1 in
-    rw (p.1, p.2, x.1, n, j) refl
-
-pub brackets-returns-in_err-second : goal.brackets-returns-in_err-second
-brackets-returns-in_err-second t c =
-    let x = c.in_ok-first.ensures in
-    let n : x.0.1 ≡ c.len.result + c.args.«open» = omega (arith, c.len.ensures, x.2.counted, c.read_type.new.program.types.ok.0) in
-    let j = rw x.3 at c.in_ok-joint.ensures in
-    let m : suc (c.len.result + c.args.«open») ≡ length (vec_items c.read_type.new.program.types) + (c.args.«open» + 1) = omega (arith, n, x.2.counted) in
-    let y = rw j.3 at c.in_err-second.ensures in
-    let p = err_from_is_err_and c.from_residual-in_err-second.result c.from_residual-in_err-second.ensures.1 in
-    rw (p.1, p.2, x.1, n, j.1, m, y) refl
-
-pub brackets-returns-in_err-rest : goal.brackets-returns-in_err-rest
-brackets-returns-in_err-rest t c =
-    let x = c.in_ok-first.ensures in
-    let n : x.0.1 ≡ c.len.result + c.args.«open» = omega (arith, c.len.ensures, x.2.counted, c.read_type.new.program.types.ok.0) in
-    let j = rw x.3 at c.in_ok-joint.ensures in
-    let m : suc (c.len.result + c.args.«open») ≡ length (vec_items c.read_type.new.program.types) + (c.args.«open» + 1) = omega (arith, n, x.2.counted) in
-    let y = rw j.3 at c.in_ok-second.ensures in
-    let e = rw y.3 at c.in_err-rest.ensures in
-    let p = err_from_is_err_and c.from_residual-in_err-rest.result c.from_residual-in_err-rest.ensures.1 in
-    rw (p.1, p.2, x.1, n, j.1, m, y.1, e) refl
 
 pub brackets-returns : goal.brackets-returns
 brackets-returns t c =

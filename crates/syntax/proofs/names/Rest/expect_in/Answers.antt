@@ -1,4 +1,4 @@
-use Rattle.std.proofs.Common.{◌≡◌, codes, sym, ap, ◌∙◌, rules}
+use Rattle.std.proofs.Common.{◌≡◌, codes, sym, ◌∙◌, rules}
 use Rattle.std.proofs.lemmas.Slice.Eq.{text_from_reads}
 use Rattle.syntax.proofs.Scanning.{in_hit, in_miss}
 use Rattle.syntax.proofs.names.Rest.expect_in.Goals as goal

@@ -6,7 +6,7 @@ use Rattle.syntax.specs.Parse.{TermReader, refused, term_by}
 use Rattle.syntax.specs.Names.{fault}
 use Rattle.syntax.specs.Steps.{Counted}
 use Rattle.syntax.proofs.Scanning.{run_all}
-use Rattle.syntax.proofs.FirstSteps.{digits_front, run_some, by_number, by_large, by_no_number}
+use Rattle.syntax.proofs.FirstSteps.{digits_front, by_number, by_large, by_no_number}
 use Rattle.syntax.proofs.names.Rest.first_number.Goals as goal
 
 failed : (end : ℕ) (s : List ℕ) (fits : Bool) (part : TermReader) (n m : ℕ) (f : Fault) {p : ℕ} {ds : List ℕ} {r : List Placed} → lex end s ≡ (p, digits ds) ∷ r → Counted ds (Err f) → term_by end fits part n m (lex end s) ≡ refused (fault f p)

@@ -2,9 +2,7 @@ use Rattle.std.proofs.Common.{◌≡◌, ◌-◌, ◌≤◌, true, false, ltb, l
 use Rattle.std.proofs.lemmas.Bool.Decides.{nat_tests}
 use Rattle.syntax.specs.declared.signs.Joint.TheVariants.{Arrow, Product}
 use Rattle.syntax.specs.declared.refusal.Fault.TheVariants.{PassedLimit}
-use Rattle.syntax.specs.Signs.{lex}
-use Rattle.syntax.specs.Parse.{got, refused}
-use Rattle.syntax.proofs.TypeSteps.{joint_here, joint_other, tail}
+use Rattle.syntax.proofs.TypeSteps.{joint_here, joint_other}
 use Rattle.syntax.proofs.names.Rest.joint.Goals as goal
 use Rattle.syntax.proofs.names.Rest.joint.Goals.{in_default-via-then-rest-lt1, in_default-via-else-rest-lt1+in_default-1, in-62, in-42}
 
