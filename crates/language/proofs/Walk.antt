@@ -170,9 +170,6 @@ module _ (subs : List Subterm) (i : ℕ) (m₀ : Checker) (r : Ready subs i m₀
   pub type_space : k < subterms (erase r.tree) → length (cells_of m) < type_room
   type_space h = omega (arith, cells_so_far, r.types_room)
 
-  pub typing_space : length js < subterms (erase r.tree) → length (typings_of m) < 2048
-  typing_space h = omega (arith, typings_so_far, r.typing_room)
-
   pub context_space : (n : ℕ) → n < 2 * subterms (erase r.tree) → length (context_of m) + n < 4096
   context_space n h = omega (arith, context_so_far, r.context_room)
 
