@@ -235,9 +235,9 @@ module _ {subs : List Subterm} {i : ℕ} {m₀ : Checker} where
   judged {m} {m'} {c} {r} d ready h agrees noted =
       record {
         outcome = λ t e w k.
-          let b = h.outcome t e w k in
-          let p : (get_or subs i d).place ≡ (get_or subs i blank).place = ap (λ y. y.place) (get_or_default subs i d blank (inside_of ready)) in
-          by r t e w b (subst (λ q. Agrees (cells_of m) r (within q b.type)) p (agrees b.type b.denotes)) noted;
+            let b = h.outcome t e w k in
+            let p : (get_or subs i d).place ≡ (get_or subs i blank).place = ap (λ y. y.place) (get_or_default subs i d blank (inside_of ready)) in
+            by r t e w b (subst (λ q. Agrees (cells_of m) r (within q b.type)) p (agrees b.type b.denotes)) noted;
       }
     where
       answer : (t : Tree ℕ) (e : Env) (b : Built subs (get_or subs i blank).place t e m₀ m c) (r : Result ℕ Refusal) (x : Checked) → infer e t ≡ x → Denotes subs (cells_of m₀) i t → Agrees (cells_of m) r x → Noted i m m' r → Outcome subs t e m₀ m' r

@@ -14,14 +14,13 @@ use Rattle.syntax.specs.declared.program.Subterm.{Subterm}
 use Rattle.syntax.specs.declared.refusal.Refusal.{Refusal}
 use Rattle.syntax.specs.declared.refusal.Fault.TheVariants.{NoNumber, ManyIterators}
 use Rattle.language.specs.declared.checker.Checker.{Checker}
-use Rattle.language.specs.declared.typing.Typing.{Typing}
 use Rattle.language.specs.declared.counts.Facts.{Facts}
 use Rattle.language.specs.Infer.{good, infer}
 use Rattle.language.specs.Measures.{IsType}
 use Rattle.language.specs.Judgements.{Judgement, judgements, type_of, nobody, Low}
 use Rattle.language.specs.Checks.{cells_of, typings_of, context_of, Begun, Knows, Lists, Ready, Typed, Checks}
 use Rattle.language.specs.Counts.{Countable, Counts, Limited}
-use Rattle.language.specs.Accepts.{Numbers, numbered, accepts, Known, Holds, Given, Concludes, Leaves}
+use Rattle.language.specs.Accepts.{Numbers, numbered, Known, Given, Concludes}
 use Rattle.language.proofs.Shapes.{tree_more, spans_more, spans_count, there}
 use Rattle.language.proofs.Walk.{trees_last, lists_length}
 use Rattle.language.proofs.Inferring.{judged_all, sound}
@@ -136,7 +135,3 @@ read_given bytes subs cells root a =
       few = omega (arith, spans_count a.tree subs cells 0 root a.spans, there subs cells root a.tree a.denotes, a.few);
       short = a.few_types;
     }
-
--- what memory holds, as the program gives it
-pub given_out : (bytes : List ℕ) (subs subs' : List Subterm) (cells cells' : List TypeCell) (typings typings' : List Typing) (root root' : ℕ) (f f' : Facts) → subs' ≡ subs → cells' ≡ cells → typings' ≡ typings → root' ≡ root → f' ≡ f → Leaves bytes subs cells typings (Ok (root, f)) → (t : Tree ℕ) × (accepts bytes ≡ Ok t) × Holds subs' cells' typings' root' f' t
-given_out bytes subs subs' cells cells' typings typings' root root' f f' a b c d e h = rw (a, b, c, d, e) h

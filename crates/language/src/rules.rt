@@ -74,10 +74,7 @@ impl TypeTable {
     {
         match (self.cell(count), self.cell(step)) {
             (TypeCell::N, TypeCell::Arrow(domain, result))
-                if self.same(domain, result) && self.same(domain, base) =>
-            {
-                Ok(base)
-            }
+                if self.same(domain, result) && self.same(domain, base) => Ok(base),
             _ => Err(ill_typed(place)),
         }
     }

@@ -1,4 +1,4 @@
-use Rattle.std.proofs.Common.{[], ◌∷◌, ◌++◌, length, sym, refl, ap, ◌∙◌, append_assoc, append-nil, arith, length-append, rules}
+use Rattle.std.proofs.Common.{length, sym, refl, ap, ◌∙◌, append-nil, arith, length-append, rules}
 use Rattle.calculus.specs.Types.{◌⊗◌}
 use Rattle.syntax.specs.declared.program.Shape.TheVariants.{Variable}
 use Rattle.syntax.specs.declared.program.Subterm.{Subterm}
