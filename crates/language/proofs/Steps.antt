@@ -17,9 +17,9 @@ use Rattle.language.specs.Infer.{Checked, good, bad, then, within, succ_rule, ap
 use Rattle.language.specs.Measures.{type_room, IsType}
 use Rattle.language.specs.Judgements.{Judgement, judge, judgements, type_of, first, second}
 use Rattle.language.specs.Hypotheses.{cell_of}
-use Rattle.language.specs.Checks.{cells_of, typings_of, context_of, Knows, Gives, Splits, Ready, Outcome, Checks, Ruled, Infers}
+use Rattle.language.specs.Checks.{cells_of, context_of, Knows, Gives, Splits, Ready, Outcome, Checks, Ruled, Infers}
 use Rattle.language.proofs.Cells.{inside, denotes_more}
-use Rattle.language.proofs.Shapes.{blank, Shaped, shaped, Two, Three, Lambda, Split}
+use Rattle.language.proofs.Shapes.{blank, Shaped, shaped, Two, Lambda, Split}
 use Rattle.language.proofs.Inferring.{judged_all, occ_at, num_at, succ_at, lam_at, app_at, pair_at, split_at, split_body, iter_at}
 use Rattle.language.proofs.Walk.{types-last, trees_last, knows_last, Sofar, nothing_yet, of_typed, and_then, Extended, extended, Bound, Released, under, knows_more, knows_under, type_space, context_space, context_so_far, ready_next, ready_under, inside_of, ruled}
 
@@ -91,8 +91,8 @@ module _ {subs : List Subterm} {i : ℕ} {m₀ : Checker} {p : ℕ} where
     pub succ_stop : {m₁ : Checker} {z : Refusal} → Checks subs j m₀ m₁ (Err z) → Infers subs i m₀ m₁ (Err z)
     succ_stop h =
         infers (at_place here) (λ t e d kn.
-          let w = tree here t d in
-          stops t (succ p w.a) e _ w.is (succ_at e p w.a _ (h.outcome w.a e w.part kn)))
+        let w = tree here t d in
+        stops t (succ p w.a) e _ w.is (succ_at e p w.a _ (h.outcome w.a e w.part kn)))
 
     module _ {m₁ : Checker} {f : ℕ} (h : Checks subs j m₀ m₁ (Ok f)) where
       pub succ_asks : IsType (cells_of m₁) f
@@ -101,9 +101,9 @@ module _ {subs : List Subterm} {i : ℕ} {m₀ : Checker} {p : ℕ} where
       pub succ_done : {r : Result ℕ Refusal} → ((A : Ty) → DenotesType (cells_of m₁) f A → Gives (cells_of m₁) p (succ_rule p A) r) → Infers subs i m₀ m₁ r
       succ_done {r} gives =
           infers (at_place here) (λ t e d kn.
-            let w = tree here t d in
-            let one = h.outcome w.a e w.part kn in
-            ruled p t (succ p w.a) e r (succ_rule p (type_of e w.a)) w.is (succ_at e p w.a _ one.infers) (gives _ one.denotes) (of_typed one) (omega arith) refl)
+          let w = tree here t d in
+          let one = h.outcome w.a e w.part kn in
+          ruled p t (succ p w.a) e r (succ_rule p (type_of e w.a)) w.is (succ_at e p w.a _ one.infers) (gives _ one.denotes) (of_typed one) (omega arith) refl)
 
 -- two parts: applications and pairs, which differ in the rule alone
 pub record Doubled (subs : List Subterm) (i : ℕ) (m₀ : Checker) (p j k : ℕ) : Type 0 where
@@ -133,8 +133,8 @@ module _ {subs : List Subterm} {i : ℕ} {m₀ : Checker} {p j k : ℕ} where
     pub two_stop : {m₁ : Checker} {z : Refusal} → Checks subs j m₀ m₁ (Err z) → Infers subs i m₀ m₁ (Err z)
     two_stop h =
         infers two.placed (λ t e d kn.
-          let w = two.parts t d in
-          stops t (two.how w.a w.b) e _ w.is (two.answers e w.a w.b _ _ (h.outcome w.a e w.part kn) refl))
+        let w = two.parts t d in
+        stops t (two.how w.a w.b) e _ w.is (two.answers e w.a w.b _ _ (h.outcome w.a e w.part kn) refl))
 
     module _ {m₁ : Checker} {f : ℕ} (h : Checks subs j m₀ m₁ (Ok f)) where
       pub two_next : (k < i) × Ready subs k m₁
@@ -147,9 +147,9 @@ module _ {subs : List Subterm} {i : ℕ} {m₀ : Checker} {p j k : ℕ} where
       pub two_stop' : {m₂ : Checker} {z : Refusal} → Checks subs k m₁ m₂ (Err z) → Infers subs i m₀ m₂ (Err z)
       two_stop' g =
           infers two.placed (λ t e d kn.
-            let w = two.parts t d in
-            let one = h.outcome w.a e w.part kn in
-            stops t (two.how w.a w.b) e _ w.is (two.answers e w.a w.b _ _ one.infers (next_part (of_typed one) g w.b w.part' e kn)))
+          let w = two.parts t d in
+          let one = h.outcome w.a e w.part kn in
+          stops t (two.how w.a w.b) e _ w.is (two.answers e w.a w.b _ _ one.infers (next_part (of_typed one) g w.b w.part' e kn)))
 
       module _ {m₂ : Checker} {g : ℕ} (h' : Checks subs k m₁ m₂ (Ok g)) where
         -- both parts, with their types
@@ -193,9 +193,9 @@ module _ {subs : List Subterm} {i : ℕ} {m₀ : Checker} {p j k : ℕ} where
         pub two_done : {xs : List TypeCell} {m : Checker} {r : Result ℕ Refusal} → Extended xs m₂ m → length xs ≤ 1 → ((A B : Ty) → DenotesType (cells_of m₂) f A → DenotesType (cells_of m₂) g B → Gives (cells_of m) p (two.rule A B) r) → Infers subs i m₀ m r
         two_done {r = r} grow few gives =
             infers two.placed (λ t e d kn.
-              let w = both t e d kn in
-              let u = two.how w.a w.b in
-              ruled p t u e r (two.rule (type_of e w.a) (type_of e w.b)) w.is w.infers (gives _ _ w.left w.right) (extended w.added grow) (omega (arith, two.sizes w.a w.b)) (two.judges e w.a w.b ∙ sym (append_assoc (judgements e w.a) (judgements e w.b) (judge e u ∷ []))))
+            let w = both t e d kn in
+            let u = two.how w.a w.b in
+            ruled p t u e r (two.rule (type_of e w.a) (type_of e w.b)) w.is w.infers (gives _ _ w.left w.right) (extended w.added grow) (omega (arith, two.sizes w.a w.b)) (two.judges e w.a w.b ∙ sym (append_assoc (judgements e w.a) (judgements e w.b) (judge e u ∷ []))))
 
 -- iterators
 module _ {subs : List Subterm} {i : ℕ} {m₀ : Checker} {p j k l : ℕ} (here : Met subs i m₀ p (Iterator j k l)) where
@@ -208,8 +208,8 @@ module _ {subs : List Subterm} {i : ℕ} {m₀ : Checker} {p j k l : ℕ} (here 
   pub iter_stop : {m₁ : Checker} {z : Refusal} → Checks subs j m₀ m₁ (Err z) → Infers subs i m₀ m₁ (Err z)
   iter_stop h =
       infers (at_place here) (λ t e d kn.
-        let w = tree here t d in
-        stops t (iter p w.a w.b w.c) e _ w.is (iter_at e p w.a w.b w.c _ _ _ (h.outcome w.a e w.part kn) refl refl))
+      let w = tree here t d in
+      stops t (iter p w.a w.b w.c) e _ w.is (iter_at e p w.a w.b w.c _ _ _ (h.outcome w.a e w.part kn) refl refl))
 
   module _ {m₁ : Checker} {f : ℕ} (h : Checks subs j m₀ m₁ (Ok f)) where
     pub iter_next : (k < i) × Ready subs k m₁
@@ -222,9 +222,9 @@ module _ {subs : List Subterm} {i : ℕ} {m₀ : Checker} {p j k l : ℕ} (here 
     pub iter_stop' : {m₂ : Checker} {z : Refusal} → Checks subs k m₁ m₂ (Err z) → Infers subs i m₀ m₂ (Err z)
     iter_stop' g =
         infers (at_place here) (λ t e d kn.
-          let w = tree here t d in
-          let one = h.outcome w.a e w.part kn in
-          stops t (iter p w.a w.b w.c) e _ w.is (iter_at e p w.a w.b w.c _ _ _ one.infers (next_part (of_typed one) g w.b w.part' e kn) refl))
+        let w = tree here t d in
+        let one = h.outcome w.a e w.part kn in
+        stops t (iter p w.a w.b w.c) e _ w.is (iter_at e p w.a w.b w.c _ _ _ one.infers (next_part (of_typed one) g w.b w.part' e kn) refl))
 
     module _ {m₂ : Checker} {g : ℕ} (h' : Checks subs k m₁ m₂ (Ok g)) where
       pub iter_next' : (l < i) × Ready subs l m₂
@@ -238,10 +238,10 @@ module _ {subs : List Subterm} {i : ℕ} {m₀ : Checker} {p j k l : ℕ} (here 
       pub iter_stop'' : {m₃ : Checker} {z : Refusal} → Checks subs l m₂ m₃ (Err z) → Infers subs i m₀ m₃ (Err z)
       iter_stop'' q =
           infers (at_place here) (λ t e d kn.
-            let w = tree here t d in
-            let one = h.outcome w.a e w.part kn in
-            let two = next_part (of_typed one) h' w.b w.part' e kn in
-            stops t (iter p w.a w.b w.c) e _ w.is (iter_at e p w.a w.b w.c _ _ _ one.infers two.infers (next_part (and_then (of_typed one) (of_typed two)) q w.c w.part'' e kn)))
+          let w = tree here t d in
+          let one = h.outcome w.a e w.part kn in
+          let two = next_part (of_typed one) h' w.b w.part' e kn in
+          stops t (iter p w.a w.b w.c) e _ w.is (iter_at e p w.a w.b w.c _ _ _ one.infers two.infers (next_part (and_then (of_typed one) (of_typed two)) q w.c w.part'' e kn)))
 
       module _ {m₃ : Checker} {q : ℕ} (h'' : Checks subs l m₂ m₃ (Ok q)) where
         -- the three parts, with their types
@@ -285,12 +285,12 @@ module _ {subs : List Subterm} {i : ℕ} {m₀ : Checker} {p j k l : ℕ} (here 
         pub iter_done : {r : Result ℕ Refusal} → ((A F C : Ty) → DenotesType (cells_of m₃) f A → DenotesType (cells_of m₃) g F → DenotesType (cells_of m₃) q C → Gives (cells_of m₃) p (iter_rule p A F C) r) → Infers subs i m₀ m₃ r
         iter_done {r} gives =
             infers (at_place here) (λ t e d kn.
-              let w = each t e d kn in
-              let u = iter p w.a w.b w.c in
-              let ja = judgements e w.a in
-              let jb = judgements e w.b in
-              let jc = judgements e w.c in
-              ruled p t u e r (iter_rule p (type_of e w.a) (type_of e w.b) (type_of e w.c)) w.is w.infers (gives _ _ _ w.count w.step w.base) w.added (omega arith) (sym (append_assoc (ja ++ jb) jc (judge e u ∷ []) ∙ append_assoc ja jb (jc ++ (judge e u ∷ [])))))
+            let w = each t e d kn in
+            let u = iter p w.a w.b w.c in
+            let ja = judgements e w.a in
+            let jb = judgements e w.b in
+            let jc = judgements e w.c in
+            ruled p t u e r (iter_rule p (type_of e w.a) (type_of e w.b) (type_of e w.c)) w.is w.infers (gives _ _ _ w.count w.step w.base) w.added (omega arith) (sym (append_assoc (ja ++ jb) jc (judge e u ∷ []) ∙ append_assoc ja jb (jc ++ (judge e u ∷ [])))))
 
 -- functions
 module _ {subs : List Subterm} {i : ℕ} {m₀ : Checker} {p v c j : ℕ} (here : Met subs i m₀ p (Function v c j)) where
@@ -321,8 +321,8 @@ module _ {subs : List Subterm} {i : ℕ} {m₀ : Checker} {p v c j : ℕ} (here 
     pub lam_stop : {b' : Checker} {z : Refusal} → Checks subs j b b' (Err z) → Bound (record { binder = v; cell = c } ∷ []) m₀ b → Infers subs i m₀ b' (Err z)
     lam_stop h bound =
         infers (at_place here) (λ t e d kn.
-          let w = tree here t d in
-          stops t (lam p w.binder w.annotation w.a) e _ w.is (lam_at e p w.binder w.annotation w.a _ (body h bound t e w kn)))
+        let w = tree here t d in
+        stops t (lam p w.binder w.annotation w.a) e _ w.is (lam_at e p w.binder w.annotation w.a _ (body h bound t e w kn)))
 
     module _ {b' : Checker} {f : ℕ} (h : Checks subs j b b' (Ok f)) (bound : Bound (record { binder = v; cell = c } ∷ []) m₀ b) where
       pub lam_room : length (cells_of b') < type_room
@@ -334,11 +334,11 @@ module _ {subs : List Subterm} {i : ℕ} {m₀ : Checker} {p v c j : ℕ} (here 
       pub lam_done : {n a : ℕ} {m : Checker} → n ≡ length (context_of m₀) → a ≡ length (cells_of b') → Released n (kind.Arrow c f ∷ []) b' m → Infers subs i m₀ m (Ok a)
       lam_done {n} {a} {m} before place released =
           infers (at_place here) (λ t e d kn.
-            let w = tree here t d in
-            let o = body h bound t e w kn in
-            let U = type_of (put e w.binder.place w.annotation) w.a in
-            let T : DenotesType (cells_of b') c w.annotation = types-last o.grown w.annotation c (subst (λ cs. DenotesType cs c w.annotation) (sym bound.types) w.type) in
-            ruled p t (lam p w.binder w.annotation w.a) e (Ok a) (within p (w.annotation ⇒ U)) w.is (lam_at e p w.binder w.annotation w.a _ o.infers) (w.annotation ⇒ U, arrow_cell (cells_of b') (cells_of m) a c f w.annotation U released.cells place T o.denotes, refl) (under bound (of_typed o) before released) (omega arith) refl)
+          let w = tree here t d in
+          let o = body h bound t e w kn in
+          let U = type_of (put e w.binder.place w.annotation) w.a in
+          let T : DenotesType (cells_of b') c w.annotation = types-last o.grown w.annotation c (subst (λ cs. DenotesType cs c w.annotation) (sym bound.types) w.type) in
+          ruled p t (lam p w.binder w.annotation w.a) e (Ok a) (within p (w.annotation ⇒ U)) w.is (lam_at e p w.binder w.annotation w.a _ o.infers) (w.annotation ⇒ U, arrow_cell (cells_of b') (cells_of m) a c f w.annotation U released.cells place T o.denotes, refl) (under bound (of_typed o) before released) (omega arith) refl)
 
 -- lets
 module _ {subs : List Subterm} {i : ℕ} {m₀ : Checker} {p v v' j k : ℕ} (here : Met subs i m₀ p (Let v v' j k)) where
@@ -354,8 +354,8 @@ module _ {subs : List Subterm} {i : ℕ} {m₀ : Checker} {p v v' j k : ℕ} (he
   pub let_stop : {m₁ : Checker} {z : Refusal} → Checks subs j m₀ m₁ (Err z) → Infers subs i m₀ m₁ (Err z)
   let_stop h =
       infers (at_place here) (λ t e d kn.
-        let w = tree here t d in
-        stops t (split p w.binder w.binder' w.a w.b) e _ w.is (split_at e p w.binder w.binder' w.a w.b _ (h.outcome w.a e w.part kn)))
+      let w = tree here t d in
+      stops t (split p w.binder w.binder' w.a w.b) e _ w.is (split_at e p w.binder w.binder' w.a w.b _ (h.outcome w.a e w.part kn)))
 
   module _ {m₁ : Checker} {f : ℕ} (h : Checks subs j m₀ m₁ (Ok f)) where
     pub let_asks : IsType (cells_of m₁) f
@@ -364,9 +364,9 @@ module _ {subs : List Subterm} {i : ℕ} {m₀ : Checker} {p v v' j k : ℕ} (he
     pub let_stop' : {z : Refusal} → ((A : Ty) → DenotesType (cells_of m₁) f A → Splits (cells_of m₁) p A (Err z)) → Infers subs i m₀ m₁ (Err z)
     let_stop' no_pair =
         infers (at_place here) (λ t e d kn.
-          let w = tree here t d in
-          let one = h.outcome w.a e w.part kn in
-          stops t (split p w.binder w.binder' w.a w.b) e _ w.is (split_at e p w.binder w.binder' w.a w.b _ one.infers ∙ no_pair (type_of e w.a) one.denotes _))
+        let w = tree here t d in
+        let one = h.outcome w.a e w.part kn in
+        stops t (split p w.binder w.binder' w.a w.b) e _ w.is (split_at e p w.binder w.binder' w.a w.b _ one.infers ∙ no_pair (type_of e w.a) one.denotes _))
 
     pub let_space : length (context_of m₁) + 1 < 4096
     let_space =
@@ -421,15 +421,15 @@ module _ {subs : List Subterm} {i : ℕ} {m₀ : Checker} {p v v' j k : ℕ} (he
         pub let_stop'' : {b' : Checker} {z : Refusal} → Checks subs k b b' (Err z) → Bound (record { binder = v; cell = left } ∷ (record { binder = v'; cell = right } ∷ [])) m₁ b → Infers subs i m₀ b' (Err z)
         let_stop'' g bound =
             infers (at_place here) (λ t e d kn.
-              let w = tree here t d in
-              stops t (split p w.binder w.binder' w.a w.b) e _ w.is (split_body e p w.binder w.binder' w.a w.b _ _ _ (pair_infers t e w kn) (let_body g bound t e w kn)))
+            let w = tree here t d in
+            stops t (split p w.binder w.binder' w.a w.b) e _ w.is (split_body e p w.binder w.binder' w.a w.b _ _ _ (pair_infers t e w kn) (let_body g bound t e w kn)))
 
         pub let_done : {b' m : Checker} {n c : ℕ} → Checks subs k b b' (Ok c) → Bound (record { binder = v; cell = left } ∷ (record { binder = v'; cell = right } ∷ [])) m₁ b → n ≡ length (context_of m₁) → Released n [] b' m → Infers subs i m₀ m (Ok c)
         let_done {b'} {m} {n} {c} g bound before released =
             infers (at_place here) (λ t e d kn.
-              let w = tree here t d in
-              let u = split p w.binder w.binder' w.a w.b in
-              let o = let_body g bound t e w kn in
-              let T = type_of (env t w e) w.b in
-              let last : DenotesType (cells_of m) c T = subst (λ cs. DenotesType cs c T) (sym (released.cells ∙ append-nil (cells_of b'))) o.denotes in
-              ruled p t u e (Ok c) (within p T) w.is (split_body e p w.binder w.binder' w.a w.b _ _ _ (pair_infers t e w kn) o.infers) (T, last, refl) (and_then (of_typed (h.outcome w.a e w.part kn)) (under bound (of_typed o) before released)) (omega arith) (sym (append_assoc (judgements e w.a) (judgements (env t w e) w.b) (judge e u ∷ []))))
+            let w = tree here t d in
+            let u = split p w.binder w.binder' w.a w.b in
+            let o = let_body g bound t e w kn in
+            let T = type_of (env t w e) w.b in
+            let last : DenotesType (cells_of m) c T = subst (λ cs. DenotesType cs c T) (sym (released.cells ∙ append-nil (cells_of b'))) o.denotes in
+            ruled p t u e (Ok c) (within p T) w.is (split_body e p w.binder w.binder' w.a w.b _ _ _ (pair_infers t e w kn) o.infers) (T, last, refl) (and_then (of_typed (h.outcome w.a e w.part kn)) (under bound (of_typed o) before released)) (omega arith) (sym (append_assoc (judgements e w.a) (judgements (env t w e) w.b) (judge e u ∷ []))))

@@ -1,7 +1,9 @@
 -- A check goes from part to part: what it has added so far, and what it still has room for.
 use Rattle.std.proofs.Common.{◌≡◌, ℕ, suc, ◌+◌, ◌*◌, ◌<◌, ◌≤◌, Bool, true, false, cond, eqb, List, [], ◌∷◌, ◌++◌, length, get_or, take, Ok, Err, vec_items, Result, sym, refl, ap, ◌∙◌, subst, append_assoc, append-nil, arith, length-append, take_all}
 use lib.Seq.{take-append-le}
+use Rattle.std.specs.Result.{IsErrAnd}
 use Rattle.std.proofs.lemmas.List.{get_or_default}
+use Rattle.std.proofs.lemmas.Result.{err_from_is_err_and}
 use Rattle.calculus.specs.Types.{Ty, N}
 use Rattle.calculus.specs.Terms.{subterms}
 use Rattle.syntax.specs.Trees.{Tree, erase}
@@ -168,9 +170,6 @@ module _ (subs : List Subterm) (i : ℕ) (m₀ : Checker) (r : Ready subs i m₀
   pub type_space : k < subterms (erase r.tree) → length (cells_of m) < type_room
   type_space h = omega (arith, cells_so_far, r.types_room)
 
-  pub typing_space : length js < subterms (erase r.tree) → length (typings_of m) < 2048
-  typing_space h = omega (arith, typings_so_far, r.typing_room)
-
   pub context_space : (n : ℕ) → n < 2 * subterms (erase r.tree) → length (context_of m) + n < 4096
   context_space n h = omega (arith, context_so_far, r.context_room)
 
@@ -225,16 +224,20 @@ module _ {subs : List Subterm} {i : ℕ} {m₀ : Checker} where
         let b = h.outcome r.tree r.env r.denotes r.knows in
         omega (arith, lists_length subs (cells_of m) b.new b.parts b.lists, judged_all r.env r.tree, simp length-append at (ap length b.judged), simp length-append at (ap length b.grown.typings), r.typing_room)
 
-  pub stopped : {m : Checker} {z : Refusal} → Infers subs i m₀ m (Err z) → Checks subs i m₀ m (Err z)
-  stopped h = record { outcome = h.outcome }
+  -- what a `?` gives back
+  pub failed : {m : Checker} {z : Refusal} {r : Result ℕ Refusal} → IsErrAnd r (λ y. y ≡ z) → Infers subs i m₀ m (Err z) → Infers subs i m₀ m r
+  failed {r = r} e h = let p = err_from_is_err_and r e in rw (p.1, p.2) h
+
+  pub stopped : {m : Checker} {z : Refusal} {r : Result ℕ Refusal} → IsErrAnd r (λ y. y ≡ z) → Infers subs i m₀ m (Err z) → Checks subs i m₀ m r
+  stopped {r = r} e h = let p = err_from_is_err_and r e in rw (p.1, p.2) (record { outcome = h.outcome })
 
   pub judged : {m m' : Checker} {c : ℕ} {r : Result ℕ Refusal} (d : Subterm) → Ready subs i m₀ → Infers subs i m₀ m (Ok c) → ((A : Ty) → DenotesType (cells_of m) c A → Agrees (cells_of m) r (within (get_or subs i d).place A)) → Noted i m m' r → Checks subs i m₀ m' r
   judged {m} {m'} {c} {r} d ready h agrees noted =
       record {
         outcome = λ t e w k.
-          let b = h.outcome t e w k in
-          let p : (get_or subs i d).place ≡ (get_or subs i blank).place = ap (λ y. y.place) (get_or_default subs i d blank (inside_of ready)) in
-          by r t e w b (subst (λ q. Agrees (cells_of m) r (within q b.type)) p (agrees b.type b.denotes)) noted;
+            let b = h.outcome t e w k in
+            let p : (get_or subs i d).place ≡ (get_or subs i blank).place = ap (λ y. y.place) (get_or_default subs i d blank (inside_of ready)) in
+            by r t e w b (subst (λ q. Agrees (cells_of m) r (within q b.type)) p (agrees b.type b.denotes)) noted;
       }
     where
       answer : (t : Tree ℕ) (e : Env) (b : Built subs (get_or subs i blank).place t e m₀ m c) (r : Result ℕ Refusal) (x : Checked) → infer e t ≡ x → Denotes subs (cells_of m₀) i t → Agrees (cells_of m) r x → Noted i m m' r → Outcome subs t e m₀ m' r

@@ -5,6 +5,7 @@ use Rattle.calculus.specs.Terms.{subterms}
 use Rattle.syntax.specs.Trees.{Tree, erase}
 use Rattle.syntax.specs.Program.{DenotesType, Denotes}
 use Rattle.syntax.specs.declared.program.TypeCell.{TypeCell}
+use Rattle.syntax.specs.declared.program.TypeCell.TheVariants as cell
 use Rattle.syntax.specs.declared.program.Shape.TheVariants.{Number}
 use Rattle.syntax.specs.declared.program.Subterm.{Subterm}
 use Rattle.syntax.specs.declared.refusal.Refusal.{Refusal}
@@ -25,6 +26,13 @@ typings_of m = vec_items m.typings
 
 abbrev pub context_of : Checker → List Hypothesis
 context_of m = vec_items m.context.hypotheses
+
+-- the checker as it begins: the annotations' cells, and N
+pub record Begun (cells : List TypeCell) (m : Checker) : Type 0 where
+  pub types : cells_of m ≡ cells ++ (cell.N ∷ [])
+  pub typings : typings_of m ≡ []
+  pub context : context_of m ≡ []
+  pub number : m.number ≡ length cells
 
 -- the context has each variable at its type in e
 abbrev pub Knows : List TypeCell → ℕ → List Hypothesis → Env → Type 0

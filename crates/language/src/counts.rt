@@ -5,7 +5,7 @@ ghost use Rattle.language.specs.Printed.{counts_text};
 use std::fmt;
 
 // How many sub-terms, iterators and successor signs it has, the greatest height of a sub-term's type, and its weight.
-#[derive(Clone, Copy, PartialEq, Eq, Debug)]
+#[derive(Clone, Copy, PartialEq, Eq, Default, Debug)]
 pub struct Facts {
     pub subterms: usize,
     pub iterators: usize,

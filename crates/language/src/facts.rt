@@ -22,17 +22,12 @@ fn added(shape: Shape, measure: Measure) -> (usize, usize, u128)
     }
 }
 
+// The project prescribes this form, a loop over the slice of typed sub-terms.
 pub(crate) fn facts(subs: &[Subterm], typings: &[Typing], types: &TypeTable) -> Facts
     requires { Countable subs.now types.now.cells.items typings.now }
     ensures { (js : List Judgement) → Lists subs.now types.now.cells.items typings.now js → Low js → Counts js result }
 {
-    let mut facts = Facts {
-        subterms: 0,
-        iterators: 0,
-        successors: 0,
-        height: 0,
-        weight: 0,
-    };
+    let mut facts = Facts::default();
     for typing in typings {
         let shape = subs[typing.subterm].shape;
         let measure = types.measure(typing.cell);

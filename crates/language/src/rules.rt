@@ -2,7 +2,7 @@
 ghost use Rattle.std.specs.Prelude.{◌≡◌};
 ghost use Rattle.calculus.specs.Types.{Ty};
 ghost use Rattle.syntax.specs.Program.{DenotesType};
-ghost use Rattle.language.specs.Infer.{succ_rule, app_rule, iter_step, iter_rule};
+ghost use Rattle.language.specs.Infer.{succ_rule, app_rule, iter_rule};
 ghost use Rattle.language.specs.Measures.{IsType};
 ghost use Rattle.language.specs.Checks.{ill_typed, Splits, Gives};
 
@@ -72,23 +72,9 @@ impl TypeTable {
         requires base { IsType self.now.cells.items base }
         ensures { (A F C : Ty) → DenotesType self.now.cells.items count A → DenotesType self.now.cells.items step F → DenotesType self.now.cells.items base C → Gives self.now.cells.items place (iter_rule place A F C) result }
     {
-        match self.cell(count) {
-            TypeCell::N => self.repeated(place, step, base),
-            TypeCell::Arrow(_, _) | TypeCell::Product(_, _) => Err(ill_typed(place)),
-        }
-    }
-
-    fn repeated(&self, place: usize, step: usize, base: usize) -> Result<usize, Refusal>
-        requires step { IsType self.now.cells.items step }
-        requires base { IsType self.now.cells.items base }
-        ensures { (F C : Ty) → DenotesType self.now.cells.items step F → DenotesType self.now.cells.items base C → Gives self.now.cells.items place (iter_step place F C) result }
-    {
-        match self.cell(step) {
-            TypeCell::Arrow(domain, result)
-                if self.same(domain, result) && self.same(domain, base) =>
-            {
-                Ok(base)
-            }
+        match (self.cell(count), self.cell(step)) {
+            (TypeCell::N, TypeCell::Arrow(domain, result))
+                if self.same(domain, result) && self.same(domain, base) => Ok(base),
             _ => Err(ill_typed(place)),
         }
     }

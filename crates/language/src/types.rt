@@ -21,7 +21,7 @@ fn join(a: Measure, b: Measure) -> Measure
     }
 }
 
-// N has the measure of a cell that is not in the table.
+// A cell that is not in the table is measured as N.
 pub(crate) fn measure_of(measures: &[Measure], i: usize) -> Measure
     ensures { result ≡ slice_index_or measures.now i number }
 {
@@ -40,7 +40,8 @@ pub(crate) fn measured(measures: &[Measure], cell: TypeCell) -> Measure
     }
 }
 
-// Two types are equal when they have the same sign and equal parts.
+// Two types are equal when they have the same sign and equal parts, wherever their cells stand.
+// The project prescribes this form, a recursion on cells whose numbers fall.
 pub(crate) fn same(cells: &[TypeCell], i: usize, j: usize) -> bool
     requires left { IsType cells.now i }
     requires right { IsType cells.now j }

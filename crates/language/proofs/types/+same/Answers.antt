@@ -1,4 +1,4 @@
-use Rattle.std.proofs.Common.{◌<◌, length, arith, rules}
+use Rattle.std.proofs.Common.{arith, rules}
 use Rattle.language.proofs.Cells.{inside, reads, same_numbers, same_arrows, same_products, other_arrows, other_products, apart_number, apart_arrow, apart_product}
 use Rattle.language.proofs.types.+same.Goals as goal
 

@@ -1,4 +1,4 @@
-use Rattle.std.proofs.Common.{◌≡◌, eqb, reverse, sym, ◌∙◌, ap, rules, unwrap_or, option_map}
+use Rattle.std.proofs.Common.{◌≡◌, eqb, reverse, ◌∙◌, ap, rules, unwrap_or, option_map}
 use Rattle.std.specs.List.{find}
 use Rattle.std.proofs.lemmas.Iterator.Adapters.{YieldsList-from_rev_slice}
 use Rattle.std.proofs.lemmas.Iterator.Search.{find_from_yields_List}

@@ -1,9 +1,9 @@
-use Rattle.std.proofs.Common.{sym, ◌∙◌, subst}
-use Rattle.calculus.specs.Types.{Ty}
-use Rattle.language.specs.Infer.{iter_rule}
-use Rattle.language.specs.Checks.{Gives}
+use Rattle.std.proofs.Common.{◌∙◌}
 use Rattle.language.proofs.Cells.{reads}
 use Rattle.language.proofs.table.TypeTable.iterator.Goals as goal
 
-pub returns-in-N : goal.returns-in-N
-returns-in-N c = λ A F C d f g. subst (λ T. Gives c.args.self.now.cells.items c.args.place (iter_rule c.args.place T F C) c.repeated.result) (sym (reads A _ _ _ (c.cell.ensures ∙ c.in-N.is) d)) (c.repeated.ensures F C f g)
+pub same-requires : goal.same-requires
+same-requires c = let m = reads _ _ _ _ (c.cell-2.ensures ∙ c.in-N-Arrow.is-1) c.requires.step.1 in record { left = (_, m.first); right = (_, m.second) }
+
+pub same-requires-then-same : goal.same-requires-then-same
+same-requires-then-same c = let m = reads _ _ _ _ (c.cell-2.ensures ∙ c.in-N-Arrow.is-1) c.requires.step.1 in record { left = (_, m.first); right = c.requires.base }
