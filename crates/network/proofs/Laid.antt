@@ -1,5 +1,8 @@
 -- The nodes of a part are those of its construct and then those of its own parts, laid one behind the other.
-use Rattle.std.proofs.Common.{◌≡◌, ℕ, suc, ◌+◌, ◌-◌, ◌<◌, ◌≤◌, ◌⊎◌, List, [], ◌∷◌, ◌++◌, length, get_or, set, replicate, sym, refl, ap, ◌∙◌, subst, inl, inr, arith, length-append}
+use Rattle.std.proofs.Common.{◌≡◌, ℕ, zero, suc, ◌+◌, ◌-◌, ◌<◌, ◌≤◌, ◌⊎◌, List, [], ◌∷◌, ◌++◌, length, get_or, take, drop, set, replicate, sym, refl, ap, ◌∙◌, subst, inl, inr, append_assoc, arith, length-append, length-set}
+use Rattle.std.proofs.lemmas.List.{take-append-drop, drop-set-lt}
+use Rattle.std.proofs.Math.Seq.{take-suc-set}
+use borrow.Rule.Slice.PartMut.{put_mid, Post-is}
 use lib.ListN.{length-replicate}
 use Rattle.cells.specs.declared.kinds.Cell.{Cell}
 use Rattle.cells.specs.declared.kinds.Kind.TheVariants.{Transfer}
@@ -41,12 +44,21 @@ pub span_transfers : (n u k r : ℕ) (xs : List ℕ) (a b : List Cell) → u ≡
 span_transfers n u k r xs a b e w z =
     rw (transfers_are n xs) (record { written = w ∙ ap (λ v. laid (replicate v (Transfer, n)) k a) e; next = omega (arith, e, z, length-replicate {A = Made} (length xs) (Transfer, n)) })
 
--- one more of them
-pub transfers_more : (m : Made) (u e k : ℕ) (a : List Cell) → k < e → laid (replicate (e - (k + 1)) m) (k + 1) (set a k (cell_of (bare m))) ≡ laid (replicate (e - k) m) k a
-transfers_more m u e k a h =
-    let z : e - k ≡ suc (e - (k + 1)) = omega arith in
-    let s : k + 1 ≡ suc k = omega arith in
-    rw (z, s) refl
+-- the same node in each of u cells, which are what is written in their place
+laid-replicate : (m : Made) (u k : ℕ) (cs : List Cell) → k + u ≤ length cs → laid (replicate u m) k cs ≡ take k cs ++ (replicate u (cell_of (bare m)) ++ drop (k + u) cs)
+laid-replicate m zero k cs h = let e : k + 0 ≡ k = omega arith in rw e (sym (take-append-drop k cs))
+laid-replicate m (suc u) k cs h =
+    let x = cell_of (bare m) in
+    let e : suc k + u ≡ k + suc u = omega arith in
+    let b : k < suc k + u = omega arith in
+    let l : k < length cs = omega arith in
+    laid-replicate m u (suc k) (set cs k x) (omega (arith, length-set cs k x))
+    ∙ rw (take-suc-set cs k x l, drop-set-lt (suc k + u) cs k x b, e) (append_assoc (take k cs) (x ∷ []) (replicate u x ++ drop (k + suc u) cs))
+
+pub filled : (m : Made) (u k e : ℕ) (cs ys : List Cell) → e ≡ k + u → e ≤ length cs → ys ≡ replicate u (cell_of (bare m)) → put_mid k (e - k) cs ys ≡ laid (replicate u m) k cs
+filled m u k e cs ys z h f =
+    let b : k ≤ e = omega arith in
+    rw (Post-is k e cs b, f, z) (sym (laid-replicate m u k cs (omega arith)))
 
 -- what a term of one, two or three parts makes
 pub record One (parts : List Part) (i j : ℕ) (s : Shape) (t : Term) : Type 0 where

@@ -9,22 +9,25 @@ ghost use Rattle.network.specs.Laying.{own_nodes, own_iterators, Layable, LaidOu
 
 use crate::part::{Next, Part};
 use crate::plan::part_at;
-use cells::{Cell, Kind};
+use cells::{ABSENT, Cell, Kind};
 use syntax::program::Shape;
 
-// The link that stands for none.
-const ABSENT: u32 = 4_294_967_295;
+// A node that is not yet linked.
+fn unlinked(kind: Kind, value: u32) -> Cell
+    ensures { result ≡ cell_of (bare (kind, value)) }
+{
+    Cell {
+        kind: kind as u8,
+        value,
+        links: [ABSENT; 3],
+    }
+}
 
-// Writes a node that is not yet linked.
-pub fn lay_node(kind: Kind, value: u32, k: usize, cells: &mut [Cell])
+pub(crate) fn lay_node(kind: Kind, value: u32, k: usize, cells: &mut [Cell])
     requires { k < length cells.old }
     ensures { cells.new ≡ slice_set cells.old k (cell_of (bare (kind, value))) }
 {
-    cells[k] = Cell {
-        kind: kind as u8,
-        value,
-        links: [ABSENT, ABSENT, ABSENT],
-    };
+    cells[k] = unlinked(kind, value);
 }
 
 // Writes the nodes that a construct makes itself, before those of its parts.
@@ -55,7 +58,7 @@ fn lay_own(shape: Shape, next: Next, cells: &mut [Cell]) -> Next
     }
     Next {
         node: k + 1,
-        iterator: next.iterator,
+        ..next
     }
 }
 
@@ -66,17 +69,12 @@ fn lay_transfers(uses: usize, iterator: u32, next: Next, cells: &mut [Cell]) -> 
     ensures next { (result.node ≡ next.node + uses) × (result.iterator ≡ next.iterator) }
 {
     let end = next.node + uses;
-    for k in next.node..end {
-        lay_node(Kind::Transfer, iterator, k, cells);
-    }
-    Next {
-        node: end,
-        iterator: next.iterator,
-    }
+    cells[next.node..end].fill(unlinked(Kind::Transfer, iterator));
+    Next { node: end, ..next }
 }
 
 /// Writes the nodes of part `i`, numbered from `next` on, and gives the numbers after these.
-pub fn lay(parts: &[Part], i: usize, next: Next, cells: &mut [Cell]) -> Next
+pub(crate) fn lay(parts: &[Part], i: usize, next: Next, cells: &mut [Cell]) -> Next
     requires { (t : Term) × Layable parts.now i next (length cells.old) t }
     ensures { (t : Term) → Holds parts.now i t → LaidOut t next result cells.old cells.new }
 {
