@@ -1,69 +1,66 @@
 -- The uses in force of a part are those of its own parts.
-use Rattle.std.proofs.Common.{◌≡◌, ℕ, suc, ◌+◌, ◌*◌, ◌<◌, ◌≤◌, Bool, true, false, cond, eqb, ◌⊎◌, List, [], ◌∷◌, ◌++◌, length, get_or, set, sym, refl, ap, ◌∙◌, subst, inl, inr, append_assoc, arith, length-append}
+use Rattle.std.proofs.Common.{◌≡◌, ℕ, suc, ◌+◌, ◌*◌, ◌<◌, ◌≤◌, Bool, true, false, cond, eqb, ◌⊎◌, Some, None, Option, List, [], ◌∷◌, ◌++◌, length, get_or, set, sym, refl, ap, ◌∙◌, subst, inl, inr, append_assoc, arith, length-append}
 use Rattle.std.proofs.lemmas.List.{get_or-set_same, get_or-set_other, set-set, set-get_or}
-use Rattle.std.proofs.lemmas.Bool.{ne_eqb, eqb-true, eqb-false}
+use Rattle.std.specs.Option.{is_some, unwrap_or}
+use Rattle.std.proofs.lemmas.List.Elements.{filter-append}
+use Rattle.std.proofs.lemmas.List.Sums.{length-filter, count_by-le-length}
+use Rattle.std.proofs.lemmas.Bool.{eqb-true, eqb-false}
 use Rattle.cells.specs.Ports.{absent}
 use Rattle.calculus.specs.Terms.{Term, free, without, subterms}
 use Rattle.geometry.specs.Network.{EachVariable}
 use Rattle.syntax.specs.declared.program.Shape.TheVariants.{Variable, Number, Successor, Function, Application, Pair, Let, Iterator}
 use Rattle.network.specs.declared.part.Part.{Part}
 use Rattle.network.specs.Parts.{no_part, Holds}
-use Rattle.network.specs.Wiring.{starting, in_force, Below, Gatherable}
+use Rattle.network.specs.Wiring.{Table, start_of, starting, in_force, Below, Gatherable}
 use Rattle.network.proofs.Sizes.{uses_few}
 use Rattle.network.proofs.Opened.{as_variable, as_number, as_successor, as_function, as_application, as_pair, as_let, as_iterator}
 
-pub start_same : (s : List ℕ) (x p : ℕ) → x < length s → starting (set s x p) x ≡ p
-start_same s x p h = get_or-set_same s x p 0 h
+pub start_same : (s : Table) (x : ℕ) (p : Option ℕ) → x < length s → start_of (set s x p) x ≡ p
+start_same s x p h = get_or-set_same s x p None h
 
-pub start_other : (s : List ℕ) (x y p : ℕ) → eqb x y ≡ false → starting (set s x p) y ≡ starting s y
-start_other s x y p e = get_or-set_other s x y p 0 (λ q. eqb-false x y e (sym q))
+start_other : (s : Table) (x y : ℕ) (p : Option ℕ) → eqb x y ≡ false → start_of (set s x p) y ≡ start_of s y
+start_other s x y p e = get_or-set_other s x y p None (λ q. eqb-false x y e (sym q))
+
+pub starts_other : (s : Table) (x y : ℕ) (p : Option ℕ) → eqb x y ≡ false → starting (set s x p) y ≡ starting s y
+starts_other s x y p e = ap (λ q. unwrap_or q absent) (start_other s x y p e)
+
+-- a port among those of n nodes is none's
+pub there_is : (n : ℕ) (o : Option ℕ) → 3 * n ≤ 4294967295 → unwrap_or o absent < 3 * n → is_some o ≡ true
+there_is n None h l = absurd (omega arith)
+there_is n (Some p) h l = refl
 
 -- what was there, put back
-put_back : (s m : List ℕ) (x p : ℕ) → m ≡ set s x p → set m x (starting s x) ≡ s
-put_back s m x p e = rw e (set-set s x p (starting s x) ∙ set-get_or s x 0)
+put_back : (s m : Table) (x : ℕ) (p : Option ℕ) → m ≡ set s x p → set m x (start_of s x) ≡ s
+put_back s m x p e = rw e (set-set s x p (start_of s x) ∙ set-get_or s x None)
 
-pub restored : (s m s' : List ℕ) (x p o : ℕ) → m ≡ set s x p → o ≡ starting s x → s' ≡ set m x o → s' ≡ s
+pub restored : (s m s' : Table) (x : ℕ) (p o : Option ℕ) → m ≡ set s x p → o ≡ start_of s x → s' ≡ set m x o → s' ≡ s
 restored s m s' x p o e f g = g ∙ (ap (λ v. set m x v) f ∙ put_back s m x p e)
 
-in_force-append : (s xs ys : List ℕ) → in_force s (xs ++ ys) ≡ in_force s xs ++ in_force s ys
-in_force-append s [] ys = refl
-in_force-append s (x ∷ xs) ys = go (in_force-append s xs ys) (eqb (starting s x) absent)
-  where
-    go : in_force s (xs ++ ys) ≡ in_force s xs ++ in_force s ys → (b : Bool) → cond b (in_force s (xs ++ ys)) (x ∷ in_force s (xs ++ ys)) ≡ cond b (in_force s xs) (x ∷ in_force s xs) ++ in_force s ys
-    go h true = h
-    go h false = ap (λ l. x ∷ l) h
-
 -- a variable that is taken out of force is not listed
-in_force_hidden : (s : List ℕ) (x : ℕ) → x < length s → (xs : List ℕ) → in_force (set s x absent) xs ≡ in_force s (without x xs)
+in_force_hidden : (s : Table) (x : ℕ) → x < length s → (xs : List ℕ) → in_force (set s x None) xs ≡ in_force s (without x xs)
 in_force_hidden s x l [] = refl
 in_force_hidden s x l (y ∷ ys) = go (in_force_hidden s x l ys) (eqb x y) refl
   where
-    go : in_force (set s x absent) ys ≡ in_force s (without x ys) → (b : Bool) → eqb x y ≡ b → in_force (set s x absent) (y ∷ ys) ≡ in_force s (cond (eqb x y) (without x ys) (y ∷ without x ys))
-    go h true e = rw (e, ← (eqb-true x y e), start_same s x absent l) h
-    go h false e = rw (e, start_other s x y absent e, h) refl
-
-in_force-length : (s xs : List ℕ) → length (in_force s xs) ≤ length xs
-in_force-length s [] = omega arith
-in_force-length s (x ∷ xs) = go (in_force-length s xs) (eqb (starting s x) absent)
-  where
-    go : length (in_force s xs) ≤ length xs → (b : Bool) → length (cond b (in_force s xs) (x ∷ in_force s xs)) ≤ length (x ∷ xs)
-    go h true = omega arith
-    go h false = omega arith
+    go : in_force (set s x None) ys ≡ in_force s (without x ys) → (b : Bool) → eqb x y ≡ b → in_force (set s x None) (y ∷ ys) ≡ in_force s (cond (eqb x y) (without x ys) (y ∷ without x ys))
+    go h true e = rw (e, ← (eqb-true x y e), start_same s x None l) h
+    go h false e = rw (e, start_other s x y None e, h) refl
 
 -- variables that start at ports are all in force
-pub in_force_all : (n : ℕ) (s xs : List ℕ) → 3 * n ≤ 4294967295 → EachVariable (λ x. starting s x < 3 * n) xs → in_force s xs ≡ xs
+pub in_force_all : (n : ℕ) (s : Table) (xs : List ℕ) → 3 * n ≤ 4294967295 → EachVariable (λ x. starting s x < 3 * n) xs → in_force s xs ≡ xs
 in_force_all n s [] l h = refl
-in_force_all n s (x ∷ xs) l h = rw (ne_eqb (starting s x) absent (λ e. omega (arith, e, h.0, l)), in_force_all n s xs l h.1) refl
+in_force_all n s (x ∷ xs) l h = rw (there_is n (start_of s x) l h.0, in_force_all n s xs l h.1) refl
 
 -- uses listed one after another
-pub listed-both : (s us vs ws xs ys : List ℕ) → vs ≡ us ++ in_force s xs → ws ≡ vs ++ in_force s ys → ws ≡ us ++ in_force s (xs ++ ys)
-listed-both s us vs ws xs ys p q = rw (in_force-append s xs ys) (q ∙ (ap (λ l. l ++ in_force s ys) p ∙ append_assoc us (in_force s xs) (in_force s ys)))
+pub listed-both : (s : Table) (us vs ws xs ys : List ℕ) → vs ≡ us ++ in_force s xs → ws ≡ vs ++ in_force s ys → ws ≡ us ++ in_force s (xs ++ ys)
+listed-both s us vs ws xs ys p q = rw (filter-append (λ x. is_some (start_of s x)) xs ys) (q ∙ (ap (λ l. l ++ in_force s ys) p ∙ append_assoc us (in_force s xs) (in_force s ys)))
 
-pub listed_bound : (s us vs : List ℕ) (x : ℕ) (xs : List ℕ) → x < length s → vs ≡ us ++ in_force (set s x absent) xs → vs ≡ us ++ in_force s (without x xs)
+pub listed_bound : (s : Table) (us vs : List ℕ) (x : ℕ) (xs : List ℕ) → x < length s → vs ≡ us ++ in_force (set s x None) xs → vs ≡ us ++ in_force s (without x xs)
 listed_bound s us vs x xs l p = p ∙ ap (λ l. us ++ l) (in_force_hidden s x l xs)
 
-pub listed-length : (s us vs : List ℕ) (t : Term) → vs ≡ us ++ in_force s (free t) → length vs ≤ length us + subterms t
-listed-length s us vs t p = omega (arith, ap length p, length-append us (in_force s (free t)), in_force-length s (free t), uses_few t)
+pub listed-length : (s : Table) (us vs : List ℕ) (t : Term) → vs ≡ us ++ in_force s (free t) → length vs ≤ length us + subterms t
+listed-length s us vs t p =
+    let q = λ (x : ℕ). is_some (start_of s x) in
+    omega (arith, ap length p, length-append us (in_force s (free t)), length-filter q (free t), count_by-le-length q (free t), uses_few t)
 
 -- what a term of one, two or three parts has free, and how large it is
 pub record One (parts : List Part) (i j : ℕ) (t : Term) : Type 0 where

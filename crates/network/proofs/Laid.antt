@@ -2,7 +2,7 @@
 use Rattle.std.proofs.Common.{◌≡◌, ℕ, zero, suc, ◌+◌, ◌-◌, ◌<◌, ◌≤◌, ◌⊎◌, List, [], ◌∷◌, ◌++◌, length, get_or, take, drop, set, replicate, sym, refl, ap, ◌∙◌, subst, inl, inr, append_assoc, arith, length-append, length-set}
 use Rattle.std.proofs.lemmas.List.{take-append-drop, drop-set-lt}
 use Rattle.std.proofs.Math.Seq.{take-suc-set}
-use borrow.Rule.Slice.PartMut.{put_mid, Post-is}
+use borrow.Rule.Slice.PartMut.{put_mid, mid_of, mid_len, Post-is}
 use lib.ListN.{length-replicate}
 use Rattle.cells.specs.declared.kinds.Cell.{Cell}
 use Rattle.cells.specs.declared.kinds.Kind.TheVariants.{Transfer}
@@ -55,10 +55,11 @@ laid-replicate m (suc u) k cs h =
     laid-replicate m u (suc k) (set cs k x) (omega (arith, length-set cs k x))
     ∙ rw (take-suc-set cs k x l, drop-set-lt (suc k + u) cs k x b, e) (append_assoc (take k cs) (x ∷ []) (replicate u x ++ drop (k + suc u) cs))
 
-pub filled : (m : Made) (u k e : ℕ) (cs ys : List Cell) → e ≡ k + u → e ≤ length cs → ys ≡ replicate u (cell_of (bare m)) → put_mid k (e - k) cs ys ≡ laid (replicate u m) k cs
+pub filled : (m : Made) (u k e : ℕ) (cs ys : List Cell) → e ≡ k + u → e ≤ length cs → ys ≡ replicate (length (mid_of k (e - k) cs)) (cell_of (bare m)) → put_mid k (e - k) cs ys ≡ laid (replicate u m) k cs
 filled m u k e cs ys z h f =
     let b : k ≤ e = omega arith in
-    rw (Post-is k e cs b, f, z) (sym (laid-replicate m u k cs (omega arith)))
+    let n : length (mid_of k (e - k) cs) ≡ u = mid_len k e cs h ∙ omega arith in
+    rw (Post-is k e cs b, f, n, z) (sym (laid-replicate m u k cs (omega arith)))
 
 -- what a term of one, two or three parts makes
 pub record One (parts : List Part) (i j : ℕ) (s : Shape) (t : Term) : Type 0 where

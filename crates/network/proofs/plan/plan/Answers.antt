@@ -1,5 +1,5 @@
 use Rattle.std.proofs.Common.{◌≡◌, ◌+◌, List, [], ◌∷◌, ◌++◌, length, get_or, take, vec_items, sym, refl, ap, ◌∙◌, subst, arith, length-append}
-use Rattle.std.proofs.lemmas.List.{get_or-take}
+use Rattle.std.proofs.lemmas.List.{get_or-take, length-take}
 use Rattle.syntax.specs.declared.program.Shape.TheVariants.{Variable}
 use Rattle.syntax.specs.declared.program.Subterm.{Subterm}
 use Rattle.network.specs.declared.part.Part.{Part}
@@ -20,7 +20,7 @@ loop-subterm-preserved c =
     let i = c.loop-subterm.subterm-index in
     let s = get_or (take c.args.count c.args.subs.now) i blank in
     let p = vec_items c.loop-subterm.parts in
-    let r = get_or-take c.args.count c.args.subs.now i blank (omega arith) in
+    let r = get_or-take c.args.count c.args.subs.now i blank (omega (arith, length-take {A = Subterm})) in
     let m = planned_more c.args.subs.now p c.loop-subterm.invariant.planned s blank (rw n r) in
     let k = c.count_of-count.ensures ∙ ap (λ q. count_of q s.shape) c.deref.ensures.value in
     let e = c.push_reserved.ensures.items ∙ ap (λ q. p ++ (record { shape = s.shape; count = q } ∷ [])) k in
