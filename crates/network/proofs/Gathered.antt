@@ -6,14 +6,14 @@ use Rattle.std.proofs.lemmas.List.Elements.{filter-append}
 use Rattle.std.proofs.lemmas.List.Sums.{length-filter, count_by-le-length}
 use Rattle.std.proofs.lemmas.Bool.{eqb-true, eqb-false}
 use Rattle.cells.specs.Ports.{absent}
-use Rattle.calculus.specs.Terms.{Term, free, without, subterms}
+use Rattle.calculus.specs.Terms.{Term, var, succ, lam, app, pair, split, iter, free, without, subterms}
 use Rattle.geometry.specs.Network.{EachVariable}
 use Rattle.syntax.specs.declared.program.Shape.TheVariants.{Variable, Number, Successor, Function, Application, Pair, Let, Iterator}
 use Rattle.network.specs.declared.part.Part.{Part}
 use Rattle.network.specs.Parts.{no_part, Holds}
 use Rattle.network.specs.Wiring.{Table, start_of, starting, in_force, Below, Gatherable}
 use Rattle.network.proofs.Sizes.{uses_few}
-use Rattle.network.proofs.Opened.{as_variable, as_number, as_successor, as_function, as_application, as_pair, as_let, as_iterator}
+use Rattle.network.proofs.Opened.{shaped}
 
 pub start_same : (s : Table) (x : ℕ) (p : Option ℕ) → x < length s → start_of (set s x p) x ≡ p
 start_same s x p h = get_or-set_same s x p None h
@@ -62,102 +62,111 @@ listed-length s us vs t p =
     let q = λ (x : ℕ). is_some (start_of s x) in
     omega (arith, ap length p, length-append us (in_force s (free t)), length-filter q (free t), count_by-le-length q (free t), uses_few t)
 
--- what a term of one, two or three parts has free, and how large it is
-pub record One (parts : List Part) (i j : ℕ) (t : Term) : Type 0 where
+-- the parts of a part whose uses can be listed: what they have free, and that theirs can be listed, one after another
+pub record One (parts : List Part) (i j size listed : ℕ) (t : Term) : Type 0 where
   pub a : Term
   pub less : j < i
-  pub part : Holds parts j a
   pub free_is : free t ≡ free a
-  pub below : (n : ℕ) → Below n t → Below n a
-  pub size : subterms t ≡ suc (subterms a)
+  pub part : Gatherable parts j size listed a
 
-pub record Bound (parts : List Part) (i x j : ℕ) (t : Term) : Type 0 where
+pub record Bound (parts : List Part) (i x j size listed : ℕ) (t : Term) : Type 0 where
   pub a : Term
   pub less : j < i
-  pub part : Holds parts j a
+  pub placed : x < size
   pub free_is : free t ≡ without x (free a)
-  pub below : (n : ℕ) → Below n t → (x < n) × Below n a
-  pub size : subterms t ≡ suc (subterms a)
+  pub part : (size' more : ℕ) → size' ≡ size → more ≡ listed → Gatherable parts j size' more a
 
-pub record Two (parts : List Part) (i j k : ℕ) (t : Term) : Type 0 where
+pub record Two (parts : List Part) (i j k size listed : ℕ) (t : Term) : Type 0 where
   pub a : Term
   pub b : Term
-  pub less : j < i
-  pub less' : k < i
-  pub part : Holds parts j a
-  pub part' : Holds parts k b
+  pub less : (j < i) × (k < i)
   pub free_is : free t ≡ free a ++ free b
-  pub below : (n : ℕ) → Below n t → Below n a × Below n b
-  pub size : subterms t ≡ suc (subterms a + subterms b)
+  pub left : Gatherable parts j size listed a
+  pub right : (size' more : ℕ) → size' ≡ size → more ≤ listed + subterms a → Gatherable parts k size' more b
 
-pub record Split (parts : List Part) (i x y j k : ℕ) (t : Term) : Type 0 where
+pub record Split (parts : List Part) (i x y j k size listed : ℕ) (t : Term) : Type 0 where
   pub a : Term
   pub b : Term
-  pub less : j < i
-  pub less' : k < i
-  pub part : Holds parts j a
-  pub part' : Holds parts k b
+  pub less : (j < i) × (k < i)
+  pub placed : (x < size) × (y < size)
   pub free_is : free t ≡ free a ++ without x (without y (free b))
-  pub below : (n : ℕ) → Below n t → (x < n) × (y < n) × Below n a × Below n b
-  pub size : subterms t ≡ suc (subterms a + subterms b)
+  pub left : Gatherable parts j size listed a
+  pub right : (size' more : ℕ) → size' ≡ size → more ≤ listed + subterms a → Gatherable parts k size' more b
 
-pub record Three (parts : List Part) (i j k l : ℕ) (t : Term) : Type 0 where
+pub record Three (parts : List Part) (i j k l size listed : ℕ) (t : Term) : Type 0 where
   pub a : Term
   pub b : Term
   pub c : Term
-  pub less : j < i
-  pub less' : k < i
-  pub less'' : l < i
-  pub part : Holds parts j a
-  pub part' : Holds parts k b
-  pub part'' : Holds parts l c
+  pub less : (j < i) × (k < i) × (l < i)
   pub free_is : free t ≡ free a ++ (free b ++ free c)
-  pub below : (n : ℕ) → Below n t → Below n a × Below n b × Below n c
-  pub size : subterms t ≡ suc (subterms a + (subterms b + subterms c))
-
-module _ (parts : List Part) (i : ℕ) (t : Term) (p : Part) (e : get_or parts i no_part ≡ p) (h : Holds parts i t) where
-  pub used : (x : ℕ) → p.shape ≡ Variable x → (free t ≡ x ∷ []) × ((n : ℕ) → Below n t → x < n) × (subterms t ≡ 1)
-  used x f = as_variable parts i (λ t. (free t ≡ x ∷ []) × ((n : ℕ) → Below n t → x < n) × (subterms t ≡ 1)) t p e h x f (refl, (λ n l. l), refl)
-
-  pub unused : (n : ℕ) → p.shape ≡ Number n → free t ≡ []
-  unused n f = as_number parts i (λ t. free t ≡ []) t p e h n f refl
-
-  pub one : (j : ℕ) → p.shape ≡ Successor j → One parts i j t
-  one j f = as_successor parts i (One parts i j) t p e h j f (λ a l q. record { a = a; less = l; part = q; free_is = refl; below = λ n b. b; size = refl })
-
-  pub bound : (x n j : ℕ) → p.shape ≡ Function x n j → Bound parts i x j t
-  bound x m j f = as_function parts i (Bound parts i x j) t p e h x m j f (λ T a l q. record { a = a; less = l; part = q; free_is = refl; below = λ n b. b; size = refl })
-
-  pub two : (j k : ℕ) → (p.shape ≡ Application j k) ⊎ (p.shape ≡ Pair j k) → Two parts i j k t
-  two j k (inl f) =
-      as_application parts i (Two parts i j k) t p e h j k f (λ a b l l' q q'. record { a = a; b = b; less = l; less' = l'; part = q; part' = q'; free_is = refl; below = λ n z. z; size = refl })
-  two j k (inr f) =
-      as_pair parts i (Two parts i j k) t p e h j k f (λ a b l l' q q'. record { a = a; b = b; less = l; less' = l'; part = q; part' = q'; free_is = refl; below = λ n z. z; size = refl })
-
-  pub split : (x y j k : ℕ) → p.shape ≡ Let x y j k → Split parts i x y j k t
-  split x y j k f =
-      as_let parts i (Split parts i x y j k) t p e h x y j k f (λ a b l l' q q'. record { a = a; b = b; less = l; less' = l'; part = q; part' = q'; free_is = refl; below = λ n z. z; size = refl })
-
-  pub three : (j k l : ℕ) → p.shape ≡ Iterator j k l → Three parts i j k l t
-  three j k l f =
-      as_iterator parts i (Three parts i j k l) t p e h j k l f (λ a b c z z' z'' q q' q''. record {
-        a = a;
-        b = b;
-        c = c;
-        less = z;
-        less' = z';
-        less'' = z'';
-        part = q;
-        part' = q';
-        part'' = q'';
-        free_is = refl;
-        below = λ n y. y;
-        size = refl;
-      })
+  pub first : Gatherable parts j size listed a
+  pub second : (size' more : ℕ) → size' ≡ size → more ≤ listed + subterms a → Gatherable parts k size' more b
+  pub third : (size' more : ℕ) → size' ≡ size → more ≤ listed + subterms a + subterms b → Gatherable parts l size' more c
 
 -- a table as long has a place for the same variables
 pub below_long : (t : Term) (m n : ℕ) → n ≡ m → Below m t → Below n t
 below_long t m n e b = subst (λ k. Below k t) (sym e) b
 
-pub gatherable : (parts : List Part) (j m n listed : ℕ) (a : Term) → Holds parts j a → Below m a → n ≡ m → listed + subterms a ≤ 2048 → (t : Term) × Gatherable parts j n listed t
-gatherable parts j m n listed a h b e r = (a, record { holds = h; below = below_long a m n e b; room = r })
+module _ {parts : List Part} {i size listed : ℕ} {t : Term} {p : Part} (e : get_or parts i no_part ≡ p) (g : Gatherable parts i size listed t) where
+  known_as : (u : Term) → t ≡ u → Gatherable parts i size listed u
+  known_as u q = subst (Gatherable parts i size listed) q g
+
+  part : (j m n more : ℕ) (a : Term) → Holds parts j a → Below m a → n ≡ m → more + subterms a ≤ 2048 → Gatherable parts j n more a
+  part j m n more a h b z r = record { holds = h; below = below_long a m n z b; room = r }
+
+  pub used : (x : ℕ) → p.shape ≡ Variable x → (free t ≡ x ∷ []) × (x < size) × (listed < 2048)
+  used x f = let q = shaped parts i t p (Variable x) e f g.holds in let w = known_as (var x) q in (ap free q, w.below, omega (arith, w.room))
+
+  pub unused : (n : ℕ) → p.shape ≡ Number n → free t ≡ []
+  unused n f = ap free (shaped parts i t p (Number n) e f g.holds)
+
+  pub one : (j : ℕ) → p.shape ≡ Successor j → One parts i j size listed t
+  one j f =
+      let (a, q, l, d) = shaped parts i t p (Successor j) e f g.holds in
+      let w = known_as (succ a) q in
+      record { a = a; less = l; free_is = ap free q; part = part j size size listed a d w.below refl (omega (arith, w.room)) }
+
+  pub bound : (x n j : ℕ) → p.shape ≡ Function x n j → Bound parts i x j size listed t
+  bound x n j f =
+      let (T, a, q, l, d) = shaped parts i t p (Function x n j) e f g.holds in
+      let w = known_as (lam x T a) q in
+      record { a = a; less = l; placed = w.below.0; free_is = ap free q; part = λ m o z r. part j size m o a d w.below.1 z (omega (arith, w.room, r)) }
+
+  pub two : (j k : ℕ) → (p.shape ≡ Application j k) ⊎ (p.shape ≡ Pair j k) → Two parts i j k size listed t
+  two j k (inl f) =
+      let (a, b, q, l, l', d, d') = shaped parts i t p (Application j k) e f g.holds in
+      let w = known_as (app a b) q in
+      record { a = a; b = b; less = (l, l'); free_is = ap free q; left = part j size size listed a d w.below.0 refl (omega (arith, w.room)); right = λ m o z r. part k size m o b d' w.below.1 z (omega (arith, w.room, r)) }
+  two j k (inr f) =
+      let (a, b, q, l, l', d, d') = shaped parts i t p (Pair j k) e f g.holds in
+      let w = known_as (pair a b) q in
+      record { a = a; b = b; less = (l, l'); free_is = ap free q; left = part j size size listed a d w.below.0 refl (omega (arith, w.room)); right = λ m o z r. part k size m o b d' w.below.1 z (omega (arith, w.room, r)) }
+
+  pub split_of : (x y j k : ℕ) → p.shape ≡ Let x y j k → Split parts i x y j k size listed t
+  split_of x y j k f =
+      let (a, b, q, l, l', d, d') = shaped parts i t p (Let x y j k) e f g.holds in
+      let w = known_as (split x y a b) q in
+      record {
+        a = a;
+        b = b;
+        less = (l, l');
+        placed = (w.below.0, w.below.1);
+        free_is = ap free q;
+        left = part j size size listed a d w.below.2 refl (omega (arith, w.room));
+        right = λ m o z r. part k size m o b d' w.below.3 z (omega (arith, w.room, r));
+      }
+
+  pub three : (j k l : ℕ) → p.shape ≡ Iterator j k l → Three parts i j k l size listed t
+  three j k l f =
+      let (a, b, c, q, z, z', z'', d, d', d'') = shaped parts i t p (Iterator j k l) e f g.holds in
+      let w = known_as (iter a b c) q in
+      record {
+        a = a;
+        b = b;
+        c = c;
+        less = (z, z', z'');
+        free_is = ap free q;
+        first = part j size size listed a d w.below.0 refl (omega (arith, w.room));
+        second = λ m o y r. part k size m o b d' w.below.1 y (omega (arith, w.room, r));
+        third = λ m o y r. part l size m o c d'' w.below.2 y (omega (arith, w.room, r));
+      }

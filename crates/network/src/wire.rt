@@ -2,8 +2,7 @@
 ghost use Rattle.std.specs.Prelude.{◌≡◌, ◌+◌, ◌*◌, ◌<◌, ◌≤◌, [], ◌++◌, length, replicate, None, IfOk, vec_len, vec_capacity, slice_set};
 ghost use Rattle.calculus.specs.Terms.{Term, free, nodes};
 ghost use Rattle.geometry.specs.Memory.{wired_cells};
-ghost use Rattle.network.specs.Parts.{Holds};
-ghost use Rattle.network.specs.Wiring.{start_of, starting, in_force, Below, Gatherable, own_wires, Joinable, Crossable, Crossed, Passable, Enclosed, Passed, Wirable, Wired};
+ghost use Rattle.network.specs.Wiring.{start_of, starting, in_force, Gatherable, own_wires, Joinable, Crossable, Crossed, Passable, Enclosed, Passed, Wirable, Wired};
 
 use crate::part::Part;
 use crate::plan::part_at;
@@ -54,7 +53,7 @@ impl Wiring {
         requires { x < length self.old.starts.items }
         ensures before { result ≡ start_of self.old.starts.items x }
         ensures after { self.new.starts.items ≡ slice_set self.old.starts.items x start }
-        ensures uses { self.new.uses ≡ self.old.uses }
+        ensures uses { self.new.uses.items ≡ self.old.uses.items }
     {
         replace(&mut self.starts[x], start)
     }
@@ -62,7 +61,7 @@ impl Wiring {
     // Lists the uses in part `i` whose variables are in force, in order of occurrence. Variables bound inside it are not.
     fn gather(&mut self, parts: &[Part], i: usize)
         requires { (t : Term) × Gatherable parts.now i (length self.old.starts.items) (length self.old.uses.items) t }
-        ensures found { (t : Term) → Holds parts.now i t → Below (length self.old.starts.items) t → self.new.uses.items ≡ self.old.uses.items ++ in_force self.old.starts.items (free t) }
+        ensures found { (t : Term) → Gatherable parts.now i (length self.old.starts.items) (length self.old.uses.items) t → self.new.uses.items ≡ self.old.uses.items ++ in_force self.old.starts.items (free t) }
         ensures kept { self.new.starts.items ≡ self.old.starts.items }
     {
         match part_at(parts, i).shape {
