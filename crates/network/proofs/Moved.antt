@@ -10,7 +10,7 @@ use Rattle.geometry.specs.Derivations.{Apart, Distinct}
 use Rattle.geometry.proofs.Local.{each_map, Same, Under}
 use Rattle.geometry.proofs.Names.{Apart-left}
 use Rattle.geometry.proofs.Ends.{entered_else}
-use Rattle.network.specs.Wiring.{Table, start_of, starting, Crossed, Wired}
+use Rattle.network.specs.Wiring.{Table, start_of, starting, Crossed, Wired, Passed}
 use Rattle.network.proofs.Gathered.{start_same, starts_other}
 
 -- all variables but these start where they did
@@ -18,8 +18,11 @@ pub record Moved (xs : List ℕ) (s s' : Table) : Type 0 where
   pub long : length s' ≡ length s
   pub same : (y : ℕ) → Apart y xs → starting s' y ≡ starting s y
 
-pub wired-moved : (t : Term) (k r e : ℕ) (s s' : Table) (cs cs' : List Cell) → Wired t k r e s s' cs cs' → Moved (free t) s s'
-wired-moved t k r e s s' cs cs' w = record { long = w.long; same = w.same }
+pub wired-moved : {t : Term} {k r e : ℕ} {s s' : Table} {cs cs' : List Cell} → Wired t k r e s s' cs cs' → Moved (free t) s s'
+wired-moved w = record { long = w.long; same = w.same }
+
+pub passed-moved : {t : Term} {k r e : ℕ} {s s' : Table} {cs cs' : List Cell} → Passed t k r e s s' cs cs' → Moved (free t) s s'
+passed-moved x = record { long = x.long; same = x.same }
 
 pub crossed_moved : (xs : List ℕ) (j : ℕ) (s s' : Table) (cs cs' : List Cell) → Crossed xs j s s' cs cs' → Moved xs s s'
 crossed_moved xs j s s' cs cs' x = record { long = x.long; same = λ y a. x.inside y ∙ entered_else y xs j (starting s) a }
