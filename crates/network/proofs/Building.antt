@@ -34,6 +34,7 @@ use Rattle.network.specs.Laying.{LaidOut}
 use Rattle.network.specs.Wiring.{Table, starting, Below, Wirable, Wired}
 use Rattle.network.specs.Building.{term_of, Stored, Trusted, Drawable, Drawn}
 use Rattle.network.proofs.Sizes.{nodes_few}
+use Rattle.network.proofs.Gathered.{below_long}
 use Rattle.network.proofs.Texts.{spelled_below, sizes, numbers, last_of}
 
 -- a closed derivation
@@ -105,18 +106,18 @@ pub laid_all : (t : Term) (r : Next) (cells c₁ c₂ : List Cell) → c₁ ≡ 
 laid_all t r cells c₁ c₂ e l = l.written ∙ ap (laid (made t 1) 1) e
 
 -- a closed program is wired with no variable in force
-pub wirable_all : (parts : List Part) (i size size' : ℕ) (starts : Table) (t : Term) → Drawable parts i (length starts) size t → size' ≡ size → Wirable parts i 1 0 starts size' t
-wirable_all parts i size size' starts t d e =
+pub wirable_all : {parts parts' : List Part} {i places size size' : ℕ} {starts : Table} {t : Term} → Drawable parts i places size t → parts' ≡ parts → length starts ≡ places → size' ≡ size → Wirable parts' i 1 0 starts size' t
+wirable_all {i = i} {size' = size'} {starts = starts} {t = t} d p l e =
     let n = 1 + nodes t in
     let few : 3 * n ≤ 4294967295 = omega (arith, nodes_few t d.small, d.small) in
     record {
       n = n;
       ready = record {
         numbered = record { within = omega (arith, d.room, e); ports = few };
-        holds = d.holds;
+        holds = rw p d.holds;
         linear = linear d.typed;
         small = d.small;
-        below = d.below;
+        below = below_long t _ _ l d.below;
         started = subst (EachVariable (λ x. starting starts x < 3 * n)) (sym (closed d.typed)) tt;
       };
       room = omega arith;

@@ -259,10 +259,11 @@ module _ {parts : List Part} {i k r : ℕ} {s : Table} {size : ℕ} where
       let inside = put (put (starting s) x (l2 k)) y (l3 k) in
       let n = same_bound (put (starting s₁) x (l2 k)) (put (starting s) x (l2 k)) y (l3 k) (free b) (same_bound (starting s₁) (starting s) x (l2 k) (without y (free b)) (unmoved (free a) rest s s₁ m d)) in
       let n' : EachVariable (Same (starting s₃) inside) (free b) = rw ey n in
+      let next : e ≡ k + nodes (split x y a b) = omega (arith, v.next, u.next) in
       let first = written_at (starting s) v (omega arith) (at₁ w (omega arith) f) (same_all (starting s) (free a)) in
       let second = written_at inside u (omega (arith, v.next)) refl n' in
       record {
-        next = omega (arith, v.next, u.next);
+        next = next;
         written = then (wires a (suc k) (l1 k) (starting s)) (wires b (suc k + nodes a) r inside) cs c₂ c₃ (first ∙ ap (wired_cells (wires a (suc k) (l1 k) (starting s))) z) second;
         long = all.long;
         same = all.same;
@@ -292,7 +293,7 @@ passed_at {t} {k} {k'} {p} {p'} {r} {s} {s₁} {c} {c₁} f x g h m =
 
 pub wired_iter : {parts : List Part} {i k r size : ℕ} {s : Table} {a b c : Term} {k₂ k₃ p q q' e : ℕ} {s₁ s₂ s₃ : Table} {cs c₁ c₂ c₃ c₄ : List Cell} (w : Wirable parts i k r s size (iter a b c)) → c₁ ≡ wired_cells (own_wires (Iterator 0 0 0) k r (starting s)) cs →
     At First k p → Wired a (k + 4) p k₂ s s₁ c₁ c₂ → At First (k + 3) q → Passed b k₂ q k₃ s₁ s₂ c₂ c₃ → At Second (k + 2) q' → Passed c k₃ q' e s₂ s₃ c₃ c₄ → Wired (iter a b c) k r e s s₃ cs c₄
-wired_iter {k = k} {r = r} {s = s} {a = a} {b = b} {c = c} {s₁ = s₁} {s₂ = s₂} {s₃ = s₃} {cs = cs} {c₁ = c₁} {c₂ = c₂} {c₃ = c₃} {c₄ = c₄} w z g v h x h' y =
+wired_iter {k = k} {r = r} {s = s} {a = a} {b = b} {c = c} {k₂ = k₂} {k₃ = k₃} {q = q} {q' = q'} {e = e} {s₁ = s₁} {s₂ = s₂} {s₃ = s₃} {cs = cs} {c₁ = c₁} {c₂ = c₂} {c₃ = c₃} {c₄ = c₄} w z g v h x h' y =
     let d = distinct w.ready.linear in
     let m = suc (suc (suc k)) in
     let st = suc m + nodes a in
@@ -308,11 +309,16 @@ wired_iter {k = k} {r = r} {s = s} {a = a} {b = b} {c = c} {s₁ = s₁} {s₂ =
     let counts = wires a (suc m) (l1 k) env in
     let steps = crossings (free b) (st + nodes b) env ++ wires b st (l1 m) (entered (free b) (st + nodes b) env) in
     let bases = crossings (free c) (ba + nodes c) env ++ wires c ba (l2 (suc (suc k))) (entered (free c) (ba + nodes c) env) in
+    let next : e ≡ k + nodes (iter a b c) = omega (arith, v.next, x.next, y.next) in
+    let to_step : q ≡ l1 m = at₁ w (omega arith) h ∙ omega arith in
+    let to_base : q' ≡ l2 (suc (suc k)) = at₂ w (omega arith) h' ∙ omega arith in
+    let from_step : k₂ ≡ st = omega (arith, v.next) in
+    let from_base : k₃ ≡ ba = omega (arith, x.next, v.next) in
     let count = written_at env v (omega arith) (at₁ w (omega arith) g) (same_all env (free a)) in
-    let step = passed_at env x (omega (arith, v.next)) (at₁ w (omega arith) h ∙ omega arith) ub in
-    let base = passed_at env y (omega (arith, x.next, v.next)) (at₂ w (omega arith) h' ∙ omega arith) uc in
+    let step = passed_at env x from_step to_step ub in
+    let base = passed_at env y from_base to_base uc in
     record {
-      next = omega (arith, v.next, x.next, y.next);
+      next = next;
       written = then (own_wires (Iterator 0 0 0) k r env) (counts ++ (steps ++ bases)) cs c₁ c₄ z (then counts (steps ++ bases) c₁ c₂ c₄ count (then steps bases c₂ c₃ c₄ step base));
       long = all.long;
       same = all.same;
