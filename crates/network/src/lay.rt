@@ -3,9 +3,7 @@ ghost use Rattle.std.specs.Prelude.{◌≡◌, ◌+◌, ◌<◌, ◌≤◌, leng
 ghost use Rattle.cells.specs.declared.kinds.Kind.TheVariants.{Transfer};
 ghost use Rattle.calculus.specs.Terms.{Term};
 ghost use Rattle.geometry.specs.Network.{bare, cell_of};
-ghost use Rattle.geometry.specs.Memory.{laid};
-ghost use Rattle.network.specs.Parts.{Holds};
-ghost use Rattle.network.specs.Laying.{own_nodes, own_iterators, Layable, LaidOut};
+ghost use Rattle.network.specs.Laying.{own_nodes, own_iterators, Layable, LaidNodes, LaidOut};
 
 use crate::part::{Next, Part};
 use crate::plan::part_at;
@@ -17,7 +15,7 @@ fn unlinked(kind: Kind, value: u32) -> Cell
     ensures { result ≡ cell_of (bare (kind, value)) }
 {
     Cell {
-        kind: kind as u8,
+        kind: kind.into(),
         value,
         links: [ABSENT; 3],
     }
@@ -34,9 +32,7 @@ pub(crate) fn lay_node(kind: Kind, value: u32, k: usize, cells: &mut [Cell])
 fn lay_own(shape: Shape, next: Next, cells: &mut [Cell]) -> Next
     requires room { next.node + length (own_nodes shape) ≤ length cells.old }
     requires few { next.iterator + own_iterators shape ≤ 4294967295 }
-    ensures cells { cells.new ≡ laid (own_nodes shape) next.node cells.old }
-    ensures node { result.node ≡ next.node + length (own_nodes shape) }
-    ensures iterator { result.iterator ≡ next.iterator + own_iterators shape }
+    ensures { LaidNodes (own_nodes shape) (own_iterators shape) next result cells.old cells.new }
 {
     let k = next.node;
     match shape {
@@ -65,8 +61,7 @@ fn lay_own(shape: Shape, next: Next, cells: &mut [Cell]) -> Next
 // Writes the Transfer nodes of an iterator's step or base, one for each of its free uses.
 fn lay_transfers(uses: usize, iterator: u32, next: Next, cells: &mut [Cell]) -> Next
     requires { next.node + uses ≤ length cells.old }
-    ensures cells { cells.new ≡ laid (replicate uses (Transfer, iterator)) next.node cells.old }
-    ensures next { (result.node ≡ next.node + uses) × (result.iterator ≡ next.iterator) }
+    ensures { LaidNodes (replicate uses (Transfer, iterator)) 0 next result cells.old cells.new }
 {
     let end = next.node + uses;
     cells[next.node..end].fill(unlinked(Kind::Transfer, iterator));
@@ -76,7 +71,7 @@ fn lay_transfers(uses: usize, iterator: u32, next: Next, cells: &mut [Cell]) -> 
 /// Writes the nodes of part `i`, numbered from `next` on, and gives the numbers after these.
 pub(crate) fn lay(parts: &[Part], i: usize, next: Next, cells: &mut [Cell]) -> Next
     requires { (t : Term) × Layable parts.now i next (length cells.old) t }
-    ensures { (t : Term) → Holds parts.now i t → LaidOut t next result cells.old cells.new }
+    ensures { (t : Term) → Layable parts.now i next (length cells.old) t → LaidOut t next result cells.old cells.new }
 {
     let shape = part_at(parts, i).shape;
     let own = lay_own(shape, next, cells);
