@@ -30,7 +30,7 @@ use Rattle.network.specs.declared.part.Part.{Part}
 use Rattle.network.specs.declared.part.Next.{Next}
 use Rattle.network.specs.Parts.{Linear, Holds}
 use Rattle.network.specs.Plan.{Planned}
-use Rattle.network.specs.Laying.{LaidOut}
+use Rattle.network.specs.Laying.{Layable, LaidOut}
 use Rattle.network.specs.Wiring.{Table, starting, Below, Wirable, Wired}
 use Rattle.network.specs.Building.{term_of, Stored, Trusted, Drawable, Drawn}
 use Rattle.network.proofs.Sizes.{nodes_few}
@@ -104,6 +104,9 @@ module _ (text : List ℕ) (t : Tree Name) (a : Accepted text t) where
 -- node 0 is the root, and the nodes of the program follow
 pub laid_all : (t : Term) (r : Next) (cells c₁ c₂ : List Cell) → c₁ ≡ set cells 0 (cell_of (bare (Root, 0))) → LaidOut t (record { node = 1; iterator = 1 }) r c₁ c₂ → c₂ ≡ laid (all_made t) 0 cells
 laid_all t r cells c₁ c₂ e l = l.written ∙ ap (laid (made t 1) 1) e
+
+pub layable_all : {parts parts' : List Part} {i places size size' : ℕ} {t : Term} → Drawable parts i places size t → parts' ≡ parts → size' ≡ size → Layable parts' i (record { node = 1; iterator = 1 }) size' t
+layable_all d p e = record { holds = rw p d.holds; room = omega (arith, d.room, e); few = omega (arith, d.few) }
 
 -- a closed program is wired with no variable in force
 pub wirable_all : {parts parts' : List Part} {i places size size' : ℕ} {starts : Table} {t : Term} → Drawable parts i places size t → parts' ≡ parts → length starts ≡ places → size' ≡ size → Wirable parts' i 1 0 starts size' t

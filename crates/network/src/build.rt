@@ -4,7 +4,7 @@ ghost use Rattle.calculus.specs.Terms.{Term};
 ghost use Rattle.network.specs.Building.{Built, Needs, Checked, Drawable, Drawn};
 
 use crate::lay::{lay, lay_node};
-use crate::part::{Next, Part};
+use crate::part::{Next, Part, SUBTERMS};
 use crate::plan::{part_at, plan};
 use crate::wire::Wiring;
 use cells::{Cell, Kind};
@@ -12,8 +12,6 @@ use grammar::accept;
 use language::workspace::Workspace;
 use std::alloc::{AllocError, Global};
 use syntax::refusal::{Fault, Refusal};
-
-const SUBTERMS: usize = 2048;
 
 /// All that building works in, had before a text is looked at: a checker; the parts of a program; and what wiring works in.
 #[derive(Drop)]

@@ -1,5 +1,8 @@
 use syntax::program::Shape;
 
+// A program has no more sub-terms than this.
+pub(crate) const SUBTERMS: usize = 2048;
+
 // How many nodes a sub-term makes, and how many uses of variables are free in it.
 #[derive(Clone, Copy, PartialEq, Eq, Debug)]
 pub(crate) struct Count {

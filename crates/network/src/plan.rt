@@ -86,7 +86,7 @@ fn count_of(parts: &[Part], shape: Shape) -> Count
     }
 }
 
-/// Counts the first `count` sub-terms, parts before wholes.
+// Counts the first `count` sub-terms, parts before wholes.
 pub(crate) fn plan(subs: &[Subterm], count: usize, parts: &mut Vec<Part>)
     requires there { count ≤ length subs.now }
     requires room { count ≤ vec_capacity parts.old }

@@ -4,7 +4,7 @@ ghost use Rattle.calculus.specs.Terms.{Term, free, nodes};
 ghost use Rattle.geometry.specs.Memory.{wired_cells};
 ghost use Rattle.network.specs.Wiring.{start_of, starting, in_force, Gatherable, own_wires, Joinable, Crossable, Crossed, Passable, Enclosed, Passed, Wirable, Wired};
 
-use crate::part::Part;
+use crate::part::{Part, SUBTERMS};
 use crate::plan::part_at;
 use crate::ports::join;
 use cells::Cell;
@@ -13,12 +13,12 @@ use std::alloc::{AllocError, Global};
 use std::mem::replace;
 use syntax::program::Shape;
 
-const SUBTERMS: usize = 2048;
-
+// A text has no more places than this.
 const PLACES: usize = 16_384;
 
-/// What wiring works in: for each place in a text the port at which the variable bound there starts, where it is in force; and the free
-/// uses of a part. The parts and the cells are lent to each call, which so cannot change the parts.
+// What wiring works in: for each place in a text the port at which the variable bound there starts, where it is in force; and the free uses
+// of a part. The parts and the cells stay parameters: were they fields, each method would have to promise that it keeps the one and the
+// place of the other, so that would be no plainer.
 #[derive(Drop)]
 pub(crate) struct Wiring {
     starts: Vec<Option<usize>>,
@@ -137,7 +137,7 @@ impl Wiring {
         }
     }
 
-    /// Wires part `i`, whose nodes are numbered from `k` on and whose root goes to the port `root`, and gives the number after its nodes.
+    // Wires part `i`, whose nodes are numbered from `k` on and whose root goes to the port `root`, and gives the number after its nodes.
     #[cycle(wire_wire_inside)]
     pub(crate) fn wire(&mut self, parts: &[Part], i: usize, k: usize, root: usize, cells: &mut [Cell]) -> usize
         requires { (t : Term) × Wirable parts.now i k root self.old.starts.items (length cells.old) t }
