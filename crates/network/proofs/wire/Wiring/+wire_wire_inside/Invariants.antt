@@ -1,5 +1,5 @@
 use Rattle.std.proofs.Common.{◌+◌, ◌*◌}
-use Rattle.network.proofs.wire.+wire_wire_inside.Given as goal
+use Rattle.network.proofs.wire.Wiring.+wire_wire_inside.Given as goal
 
 abbrev pub decreases-wire : goal.decreases-wire
 decreases-wire l = 2 * l.i
