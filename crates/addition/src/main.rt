@@ -107,9 +107,6 @@ fn tell(rt: &HostRuntime, call: &str, grant: Grant) -> io::Result<()> {
 fn granted(rt: &HostRuntime, grant: Grant) -> io::Result<()> {
     match grant {
         (steps, None) => println!(rt; "granted {steps}"),
-        (steps, Some(reason)) => {
-            let number = reason.number();
-            println!(rt; "granted {steps}, stopped by {number}")
-        }
+        (steps, Some(reason)) => println!(rt; "granted {steps}, stopped by {reason}"),
     }
 }

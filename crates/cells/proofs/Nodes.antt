@@ -1,9 +1,12 @@
 -- Cells and the nodes that steps see of them.
-use Rattle.std.proofs.Common.{◌≡◌, ℕ, zero, suc, ◌/◌, ◌%◌, ◌<◌, ◌≤◌, Bool, true, false, cond, not, ◌&&◌, eqb, ltb, List, [], ◌∷◌, length, get_or, Some, None, Option, sym, refl, ap, ◌∙◌, arith}
+use Rattle.std.proofs.Common.{◌≡◌, ℕ, zero, suc, ◌/◌, ◌%◌, ◌<◌, ◌≤◌, Bool, true, false, cond, not, ◌&&◌, eqb, ltb, List, [], ◌∷◌, length, get_or, Some, None, Option, Bor, sym, refl, ap, ◌∙◌, arith}
+use Rattle.std.specs.Option.{option_eq, option_copied}
+use Rattle.std.specs.Slice.{IsItemAt}
+use Rattle.std.proofs.Math.Bool.{and-false}
 use Rattle.std.proofs.lemmas.Bool.{eq-eqb, ne_eqb}
 use Rattle.cells.specs.declared.kinds.Cell.{Cell}
 use Rattle.cells.specs.declared.kinds.Port.TheVariants.{First, Second, Third}
-use Rattle.cells.specs.Ports.{Node, node_of, nodes_of, node_at, inside, link, linked, link_at, end, place_of, blank}
+use Rattle.cells.specs.Ports.{Node, node_of, nodes_of, node_at, inside, link, linked, link_at, end, place_of, blank, ShowsNode}
 use Rattle.cells.proofs.Inside.{inside_low}
 
 pub length-nodes_of : (cs : List Cell) → length (nodes_of cs) ≡ length cs
@@ -53,31 +56,24 @@ link_read cs p d h =
 pub end-inside : (ns : List Node) (p x : ℕ) → inside ns p ≡ true → x ≡ link ns p → Some x ≡ end ns p
 end-inside ns p x h e = ap Some e ∙ ap (λ b. cond b (Some (link ns p)) None) (sym h)
 
--- two optional ends that point at each other
-abbrev pub meet : Option ℕ → Option ℕ → ℕ → ℕ → Bool
-meet None y a b = false
-meet (Some x) None a b = false
-meet (Some x) (Some y) a b = eqb x b && eqb y a
-
-pub linked_meets : (ns : List Node) (a b : ℕ) → linked ns a b ≡ meet (end ns a) (end ns b) a b
+-- two ports are linked exactly where the end of each, where it has one, is the other
+linked_ends : (ns : List Node) (a b : ℕ) → linked ns a b ≡ (option_eq eqb (end ns a) (Some b) && option_eq eqb (end ns b) (Some a))
 unfolding linked
-linked_meets ns a b = go (inside ns a) (inside ns b)
+linked_ends ns a b = go (inside ns a) (inside ns b)
   where
-    go : (p q : Bool) → (p && (q && (eqb (link ns a) b && eqb (link ns b) a))) ≡ meet (cond p (Some (link ns a)) None) (cond q (Some (link ns b)) None) a b
+    go : (p q : Bool) → (p && (q && (eqb (link ns a) b && eqb (link ns b) a))) ≡ (option_eq eqb (cond p (Some (link ns a)) None) (Some b) && option_eq eqb (cond q (Some (link ns b)) None) (Some a))
     go true true = refl
-    go true false = refl
+    go true false = sym (and-false _)
     go false true = refl
     go false false = refl
 
-pub linked_ends : (ns : List Node) (a b x y : ℕ) → Some x ≡ end ns a → Some y ≡ end ns b → linked ns a b ≡ (eqb x b && eqb y a)
-linked_ends ns a b x y p q = linked_meets ns a b ∙ ap (λ o. meet o (end ns b) a b) (sym p) ∙ ap (λ o. meet (Some x) o a b) (sym q)
+pub linked_first : (ns : List Node) (a b : ℕ) → option_eq eqb (end ns a) (Some b) ≡ true → option_eq eqb (end ns b) (Some a) ≡ linked ns a b
+linked_first ns a b h = sym (linked_ends ns a b ∙ ap (λ t. t && option_eq eqb (end ns b) (Some a)) h)
 
-pub unlinked_first : (ns : List Node) (a b : ℕ) → None ≡ end ns a → false ≡ linked ns a b
-unlinked_first ns a b p = sym (linked_meets ns a b ∙ ap (λ o. meet o (end ns b) a b) (sym p))
+pub unlinked_first : (ns : List Node) (a b : ℕ) → option_eq eqb (end ns a) (Some b) ≡ false → false ≡ linked ns a b
+unlinked_first ns a b h = sym (linked_ends ns a b ∙ ap (λ t. t && option_eq eqb (end ns b) (Some a)) h)
 
-meet_none : (o : Option ℕ) (a b : ℕ) → meet o None a b ≡ false
-meet_none None a b = refl
-meet_none (Some x) a b = refl
-
-pub unlinked_second : (ns : List Node) (a b : ℕ) → None ≡ end ns b → false ≡ linked ns a b
-unlinked_second ns a b p = sym (linked_meets ns a b ∙ ap (λ o. meet (end ns a) o a b) (sym p) ∙ meet_none (end ns a) a b)
+-- what is read at a port's place is its node, or there is none
+pub shows_node : (cs : List Cell) (p : ℕ) (r : Option (Bor Cell)) → IsItemAt cs (p / 3) r → ShowsNode (nodes_of cs) p (option_copied r)
+shows_node cs p (Some x) (_, _, _, there, is) = node_at_lem cs (p / 3) x.now there.0 ∙ ap node_of (sym (is (omega arith) x.now))
+shows_node cs p None (_, _, _, past, _) = no_node_at cs (p / 3) past

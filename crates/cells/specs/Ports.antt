@@ -1,10 +1,11 @@
 -- What a step sees of a network: nodes with a kind, a value and three links, and the ports by their numbers. Assumes nothing.
-use Rattle.std.specs.Prelude.{◌≡◌, ℕ, ◌+◌, ◌*◌, ◌/◌, ◌%◌, Bool, cond, not, ◌&&◌, List, [], ◌∷◌, length, Some, None, Option, ◌==◌, nat_lt, slice_index, slice_index_or}
+use Rattle.std.specs.Prelude.{◌≡◌, ℕ, ◌+◌, ◌*◌, ◌/◌, ◌%◌, Bool, cond, not, ◌&&◌, List, [], ◌∷◌, length, Some, None, Option, Ok, Err, Result, ◌==◌, nat_lt, slice_index, slice_index_or}
 use Rattle.cells.specs.declared.kinds.Kind.{Kind}
 use Rattle.cells.specs.declared.kinds.Kind.TheVariants.{Root, Number, Successor, Multiplexer, Iterator, LeftCounter, RightCounter, Transfer}
 use Rattle.cells.specs.declared.kinds.Port.{Port}
 use Rattle.cells.specs.declared.kinds.Port.TheVariants.{First, Second, Third}
 use Rattle.cells.specs.declared.kinds.Cell.{Cell}
+use Rattle.cells.specs.declared.kinds.UnknownKind.{UnknownKind}
 
 -- a node: its kind, where the cell's number is that of one; its value and its three links
 pub record Node : Type 0 where
@@ -29,6 +30,11 @@ abbrev pub kind_of : ℕ → Option Kind
 kind_of n =
     cond (n == 0) (Some Root) (cond (n == 1) (Some Number) (cond (n == 2) (Some Successor) (cond (n == 3) (Some Multiplexer)
     (cond (n == 4) (Some Iterator) (cond (n == 5) (Some LeftCounter) (cond (n == 6) (Some RightCounter) (cond (n == 7) (Some Transfer) None)))))))
+
+-- the kind that a number names, or the number again where it names none
+abbrev pub KindNamed : ℕ → Result Kind UnknownKind → Type 0
+KindNamed n (Ok κ) = kind_of n ≡ Some κ
+KindNamed n (Err e) = (kind_of n ≡ None) × (e.0 ≡ n)
 
 -- how many ports a kind has
 abbrev pub arity : Kind → ℕ

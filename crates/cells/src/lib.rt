@@ -4,5 +4,5 @@
 pub mod kinds;
 pub mod links;
 
-pub use kinds::{Cell, Kind, Port};
+pub use kinds::{Cell, Kind, Port, UnknownKind};
 pub use links::{ABSENT, are_linked, cell_of, is_inside, link_of};

@@ -1,4 +1,4 @@
-use crate::read_text;
+use crate::{read_text, read_up_to};
 use std::process::Abort;
 use std::test::Fail;
 
@@ -28,6 +28,18 @@ fn bytes(rt: HostRuntime) -> Result<(), Fail> {
     match read_text(rt.alloc(), input) {
         Ok(text) => {
             assert!(rt; text.as_slice() == b"S 3\n".as_slice());
+            Ok(())
+        },
+        Err(_) => Err(Fail::new("not read")),
+    }
+}
+
+#[test]
+fn up_to_a_limit(rt: HostRuntime) -> Result<(), Fail> {
+    let input: &[u8] = b"S 3\n";
+    match read_up_to(rt.alloc(), input, 2) {
+        Ok(bytes) => {
+            assert!(rt; bytes.as_slice() == b"S ".as_slice());
             Ok(())
         },
         Err(_) => Err(Fail::new("not read")),

@@ -18,7 +18,7 @@ impl Text for End {
 
     fn write(&self, writer: &mut Writer<'_>) {
         writer.bytes(b"end=");
-        writer.number(number_of(self.why) as u64);
+        writer.number(u64::from(number_of(self.why)));
         writer.bytes(b" steps=");
         writer.signed(self.sum);
         writer.bytes(b" number=");
@@ -32,7 +32,7 @@ fn number_of(why: Option<Reason>) -> u8
     ensures { result ≡ end_number why }
 {
     match why {
-        Some(reason) => reason.number(),
+        Some(reason) => u8::from(reason),
         None => 0,
     }
 }
@@ -41,7 +41,7 @@ fn write_number(number: Option<u32>, writer: &mut Writer<'_>)
     ensures { Wrote writer.old (number_text number) writer.new }
 {
     match number {
-        Some(n) => writer.number(n as u64),
+        Some(n) => writer.number(u64::from(n)),
         None => writer.put(b'-'),
     }
 }

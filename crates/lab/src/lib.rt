@@ -8,7 +8,6 @@ mod opening;
 mod performing;
 mod refusals;
 mod stages;
-mod texts;
 mod worked;
 
 pub use ends::End;
@@ -18,5 +17,5 @@ pub use opening::open;
 pub use performing::perform;
 pub use refusals::Refused;
 pub use stages::Stage;
-pub use texts::show_text;
 pub use worked::known_outcomes;
+pub use writer::show_text;

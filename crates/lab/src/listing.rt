@@ -1,5 +1,5 @@
 ghost use Rattle.std.specs.Prelude.{◌≡◌, ◌∷◌, length, IfOk};
-ghost use Rattle.machine.specs.Walks.{place};
+ghost use Rattle.machine.specs.Standing.{stands};
 ghost use Rattle.token_machine.specs.Tokens.{state_of};
 ghost use Rattle.writer.specs.Written.{Shown};
 ghost use Rattle.lab.specs.Listings.{line_at, lines, end_line, last_of, longest, rest_of, Listed, ListingsTell};
@@ -7,10 +7,10 @@ ghost use Rattle.lab.specs.Bounds.{line_room, LinesFit};
 
 use crate::ends::End;
 use crate::stages::Stage;
-use crate::texts::show_text;
 use machine::{Reason, Walk};
 use std::alloc::{AllocError, Global};
 use token_machine::{Token, number, show};
+use writer::show_text;
 
 // The most steps that a listing takes.
 const LONGEST: u32 = 100_000;
@@ -35,7 +35,7 @@ pub struct Listing<'a> {
 impl<'a> Listing<'a> {
     // The listing from where the walk stands.
     pub fn new(walk: Walk<Token<'a>>) -> Listing<'a>
-        ensures rest { rest_of result.stage (place (state_of result.walk.machine) result.walk.sum.value) ≡ lines longest (place (state_of walk.entry.machine) walk.entry.sum.value) }
+        ensures rest { rest_of result.stage (stands state_of result.walk) ≡ lines longest (stands state_of walk.entry) }
         ensures tells { ListingsTell }
         ensures fit { LinesFit }
     {
@@ -48,7 +48,7 @@ impl<'a> Listing<'a> {
     // Writes the next line to the front of the buffer and returns its length, or nothing where the listing is over;
     // or leaves buffer and listing as they were, if the line is longer than the buffer.
     pub fn next_line(&mut self, buf: &mut [u8]) -> Result<Option<usize>, Reason>
-        ensures { Listed (rest_of self.old.stage (place (state_of self.old.walk.machine) self.old.walk.sum.value)) (rest_of self.new.stage (place (state_of self.new.walk.machine) self.new.walk.sum.value)) buf.old buf.new result }
+        ensures { Listed (rest_of self.old.stage (stands state_of self.old.walk)) (rest_of self.new.stage (stands state_of self.new.walk)) buf.old buf.new result }
     {
         match self.stage {
             Stage::Lines(left) => {
@@ -67,7 +67,7 @@ impl<'a> Listing<'a> {
 
     // Takes the next step, if one is left.
     fn advance(&mut self, left: u32)
-        ensures { lines left (place (state_of self.old.walk.machine) self.old.walk.sum.value) ≡ line_at (place (state_of self.old.walk.machine) self.old.walk.sum.value) ∷ rest_of self.new.stage (place (state_of self.new.walk.machine) self.new.walk.sum.value) }
+        ensures { lines left (stands state_of self.old.walk) ≡ line_at (stands state_of self.old.walk) ∷ rest_of self.new.stage (stands state_of self.new.walk) }
     {
         if left == 0 {
             self.stage = Stage::End(None);
@@ -83,7 +83,7 @@ impl<'a> Listing<'a> {
 
 // Writes how a walk ended to the front of the buffer.
 fn show_end(walk: &Walk<Token<'_>>, why: Option<Reason>, buf: &mut [u8]) -> Result<usize, Reason>
-    ensures { Shown (end_line why (place (state_of walk.now.machine) walk.now.sum.value)) buf.old buf.new result }
+    ensures { Shown (end_line why (stands state_of walk.now)) buf.old buf.new result }
 {
     let end = End {
         why,
@@ -95,7 +95,7 @@ fn show_end(walk: &Walk<Token<'_>>, why: Option<Reason>, buf: &mut [u8]) -> Resu
 
 // Walks on to the end of the listing, and writes its last line alone to the front of the buffer.
 pub fn show_outcome(walk: &mut Walk<Token<'_>>, buf: &mut [u8]) -> Result<usize, Reason>
-    ensures { Shown (last_of (lines longest (place (state_of walk.old.machine) walk.old.sum.value))) buf.old buf.new result }
+    ensures { Shown (last_of (lines longest (stands state_of walk.old))) buf.old buf.new result }
 {
     let (_, why) = walk.forward(LONGEST);
     show_end(walk, why, buf)

@@ -1,5 +1,5 @@
 ghost use Rattle.std.specs.Prelude.{◌≡◌, map, MatchResult};
-ghost use Rattle.machine.specs.Walks.{place};
+ghost use Rattle.machine.specs.Standing.{stands};
 ghost use Rattle.runs.specs.Readings.{Reads, meant};
 ghost use Rattle.runs.specs.Runs.{Performed};
 ghost use Rattle.lab.specs.Whole.{WholeWalks};
@@ -15,7 +15,7 @@ pub fn perform<M: Readable>(
     calls: &[Call<M::Query>],
     heap: Global,
 ) -> Result<Vec<Answer<M::Reply>>, AllocError>
-    ensures performed { MatchResult result (λ v. Performed M.Machine.next M.Machine.turned (Reads M.Machine.state M.reading) (place (M.Machine.state walk.old.machine) walk.old.sum.value) calls.now (map (meant M.told) v.items) (place (M.Machine.state walk.new.machine) walk.new.sum.value)) (λ _. walk.new ≡ walk.old) }
+    ensures performed { MatchResult result (λ v. Performed M.Machine.next M.Machine.turned (Reads M.Machine.state M.reading) (stands M.Machine.state walk.old) calls.now (map (meant M.told) v.items) (stands M.Machine.state walk.new)) (λ _. walk.new ≡ walk.old) }
     ensures whole { WholeWalks M.Machine.next M.Machine.turned (Reads M.Machine.state M.reading) }
 {
     runs::perform(walk, calls, heap)

@@ -4,4 +4,5 @@ pub mod Additions
 pub mod Strides
 pub mod Lawful
 pub mod Walks
+pub mod Standing
 pub mod Worked

@@ -1,5 +1,7 @@
-ghost use Rattle.std.specs.Prelude.{◌≡◌};
+ghost use Rattle.std.specs.Prelude.{◌≡◌, Some, decimal};
 ghost use Rattle.machine.specs.Reasons.{number_of};
+
+use std::fmt;
 
 // Why a machine, a stride or a walk does not go on, or a reading cannot be given.
 #[derive(Clone, Copy, PartialEq, Eq, Debug)]
@@ -24,11 +26,20 @@ pub enum Reason {
     ShortBuffer = 29,
 }
 
-impl Reason {
-    // The public number of a reason.
-    pub fn number(self) -> u8
-        ensures { result ≡ number_of self }
-    {
-        self as u8
+// The public number of a reason.
+impl From<Reason> for u8 {
+    ghost from_gives = { λ reason number. number ≡ number_of reason };
+
+    fn from(reason: Reason) -> u8 {
+        reason as u8
+    }
+}
+
+// A reason is shown as its number.
+impl fmt::Display for Reason {
+    ghost output = { λ reason. Some (decimal (number_of reason)) };
+
+    fn fmt<W: fmt::Write>(&self, f: &mut fmt::Formatter<W>) -> fmt::Result {
+        write!(f, "{}", u8::from(*self))
     }
 }

@@ -56,10 +56,6 @@ impl Sum {
     pub fn distance(self, target: Sum) -> u32
         ensures { result ≡ unsigned_abs (target.value -ℤ self.value) }
     {
-        if self.value <= target.value {
-            (target.value - self.value) as u32
-        } else {
-            (self.value - target.value) as u32
-        }
+        target.value.abs_diff(self.value) as u32
     }
 }

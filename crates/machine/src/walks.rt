@@ -1,6 +1,7 @@
 ghost use Rattle.std.specs.Prelude.{◌≡◌, pos};
 ghost use Rattle.machine.specs.Steps.{Took};
-ghost use Rattle.machine.specs.Walks.{place, may, Granted, Goes, Asked, Brought};
+ghost use Rattle.machine.specs.Walks.{may, Granted, Goes, Asked, Brought};
+ghost use Rattle.machine.specs.Standing.{stands};
 ghost use Rattle.machine.specs.declared.headings.Heading.TheVariants.{Up, Down};
 
 use crate::headings::Heading;
@@ -59,14 +60,14 @@ impl<M: Machine> Walk<M> {
 
     // Takes k steps, or as many as may be taken.
     pub fn forward(&mut self, k: u32) -> Grant
-        ensures { Asked Up M.next M.turned k (place (M.state self.old.machine) self.old.sum.value) (place (M.state self.new.machine) self.new.sum.value) result }
+        ensures { Asked Up M.next M.turned k (stands M.state self.old) (stands M.state self.new) result }
     {
         self.ask(Heading::Up, k)
     }
 
     // Does the same on the turned machine, and turns it again.
     pub fn back(&mut self, k: u32) -> Grant
-        ensures { Asked Down M.next M.turned k (place (M.state self.old.machine) self.old.sum.value) (place (M.state self.new.machine) self.new.sum.value) result }
+        ensures { Asked Down M.next M.turned k (stands M.state self.old) (stands M.state self.new) result }
     {
         self.ask(Heading::Down, k)
     }
@@ -80,7 +81,7 @@ impl<M: Machine> Walk<M> {
 
     // Ends the probe and moves until the sum is the probe's, however far that is.
     pub fn bring_back(&mut self, probe: Probe) -> Grant
-        ensures { Brought M.next M.turned probe.sum.value (place (M.state self.old.machine) self.old.sum.value) (place (M.state self.new.machine) self.new.sum.value) result }
+        ensures { Brought M.next M.turned probe.sum.value (stands M.state self.old) (stands M.state self.new) result }
     {
         let Probe { sum } = probe;
         self.travel(self.sum.heading_to(sum), self.sum.distance(sum))
@@ -94,7 +95,7 @@ impl<M: Machine> Walk<M> {
     }
 
     fn ask(&mut self, heading: Heading, k: u32) -> Grant
-        ensures { Asked heading M.next M.turned k (place (M.state self.old.machine) self.old.sum.value) (place (M.state self.new.machine) self.new.sum.value) result }
+        ensures { Asked heading M.next M.turned k (stands M.state self.old) (stands M.state self.new) result }
     {
         if k > MOST {
             return (0, Some(Reason::TooManySteps));
@@ -104,7 +105,7 @@ impl<M: Machine> Walk<M> {
 
     // k steps up, or down by the turned machine.
     fn travel(&mut self, heading: Heading, k: u32) -> Grant
-        ensures { Goes heading M.next M.turned k (place (M.state self.old.machine) self.old.sum.value) (place (M.state self.new.machine) self.new.sum.value) result }
+        ensures { Goes heading M.next M.turned k (stands M.state self.old) (stands M.state self.new) result }
     {
         match heading {
             Heading::Up => self.take_steps(heading, k),
@@ -119,7 +120,7 @@ impl<M: Machine> Walk<M> {
 
     // The one loop of forward, back and bring-back.
     fn take_steps(&mut self, heading: Heading, k: u32) -> Grant
-        ensures { Granted (may heading M.next) k (place (M.state self.old.machine) self.old.sum.value) (place (M.state self.new.machine) self.new.sum.value) result }
+        ensures { Granted (may heading M.next) k (stands M.state self.old) (stands M.state self.new) result }
     {
         for granted in 0..k {
             if let Err(reason) = self.take_step(heading) {
@@ -131,7 +132,7 @@ impl<M: Machine> Walk<M> {
 
     // One step of the machine, if the walk's limit and the machine let it be taken.
     fn take_step(&mut self, heading: Heading) -> Result<(), Reason>
-        ensures { Took (may heading M.next) (place (M.state self.old.machine) self.old.sum.value) (place (M.state self.new.machine) self.new.sum.value) result }
+        ensures { Took (may heading M.next) (stands M.state self.old) (stands M.state self.new) result }
     {
         let sum = self.sum.moved(heading).ok_or(Reason::WalkLimit)?;
         self.machine.step()?;

@@ -1,31 +1,18 @@
 // Tells how many programs end: texts on standard input, one to a line, and for each the last line of its listing, or its refusal.
 #![tactic(auto)]
 
-ghost use Rattle.std.specs.Prelude.{◌≡◌, ℕ, ◌<◌, ◌≤◌, length, IfOk, ◌≢◌, slice_index};
+ghost use Rattle.std.specs.Prelude.{◌≤◌, length, IfOk};
 
 use anyhow::anyhow;
+use input::read_up_to;
 use lab::{Reserve, line_buffer, open, show_outcome, show_text};
 use machine::Walk;
 use network::Builder;
-use std::io::{BufWriter, Read, Write};
+use std::io::{BufWriter, Write};
 use token::DataCell;
 
 // The most bytes that are read.
 const MOST: u64 = 16_777_216;
-
-// Where the first line ends: at a line feed, or at the end.
-fn line_end(texts: &[u8]) -> usize
-    ensures within { result ≤ length texts.now }
-    ensures before { (k : ℕ) → k < result → slice_index texts.now k ≢ 10 }
-    ensures found { result < length texts.now → slice_index texts.now result ≡ 10 }
-{
-    for (i, b) in texts.iter().enumerate() {
-        if *b == b'\n' {
-            return i;
-        }
-    }
-    texts.len()
-}
 
 // Writes how the program of one text ends to the front of the line, and returns the length.
 fn tell(
@@ -40,10 +27,7 @@ fn tell(
         Ok(token) => show_outcome(&mut Walk::new(token), line),
         Err(refused) => show_text(&refused, line),
     };
-    match shown {
-        Ok(n) => Ok(n),
-        Err(_) => Err(anyhow!("a line is longer than the buffer")),
-    }
+    shown.map_err(|_| anyhow!("a line is longer than the buffer"))
 }
 
 fn tell_all<W: Write>(out: &mut W, rt: &HostRuntime, texts: &[u8]) -> anyhow::Result<()> {
@@ -51,22 +35,16 @@ fn tell_all<W: Write>(out: &mut W, rt: &HostRuntime, texts: &[u8]) -> anyhow::Re
     let mut builder = Builder::new(heap)?;
     let mut reserve = Reserve::new(heap)?;
     let mut line = line_buffer(heap)?;
-    let mut rest = texts;
-    while !rest.is_empty() {
-        let end = line_end(rest);
-        let n = tell(&mut builder, &mut reserve, &rest[0..end], &mut line)?;
+    for ended in texts.split_inclusive(|b| *b == b'\n') {
+        let text = ended.strip_suffix(b"\n").unwrap_or(ended);
+        let n = tell(&mut builder, &mut reserve, text, &mut line)?;
         out.write_all(&line[0..n])?;
-        rest = match &rest[end..] {
-            [_, more @ ..] => more,
-            [] => &[],
-        };
     }
     Ok(())
 }
 
 fn main(rt: HostRuntime) -> anyhow::Result<()> {
-    let mut texts = Vec::new(rt.alloc());
-    let _ = rt.stdin().take(MOST).read_to_end(&mut texts)?;
+    let texts = read_up_to(rt.alloc(), rt.stdin(), MOST)?;
     let mut out = BufWriter::new(rt.alloc(), rt.stdout())?;
     tell_all(&mut out, &rt, &texts)?;
     out.flush()?;

@@ -1,7 +1,8 @@
 -- A list of calls performed one after another.
-use Rattle.std.proofs.Common.{◌≡◌, ℕ, ◌+◌, ◌<◌, ◌≤◌, List, [], ◌∷◌, ◌++◌, map, length, get_or, take, drop, ℤ, Option, sym, refl, ap, ◌∙◌, append_assoc, append-nil, arith}
+use Rattle.std.proofs.Common.{◌≡◌, ℕ, ◌+◌, ◌<◌, ◌≤◌, List, [], ◌∷◌, ◌++◌, map, length, get_or, take, ℤ, Option, sym, refl, ap, ◌∙◌, subst, zero, suc, append_assoc, append-nil, arith}
 use mathlib.Core.List.{map-append}
-use Rattle.std.proofs.lemmas.List.{take_more, drop_more, take_all, length-take-le, length-map}
+use Rattle.std.specs.List.{zip}
+use Rattle.std.proofs.lemmas.List.{take_more, take_all, length-take-le, length-map}
 use Rattle.runs.specs.declared.calls.Call.{Call}
 use Rattle.runs.specs.declared.calls.Answer.{Answer}
 use Rattle.machine.specs.Steps.{Next}
@@ -30,10 +31,17 @@ module _ {Q X : Type 0} (fits : Q → X → Type 0) where
   pub rooms_all : (cs : List (Call Q)) (i : ℕ) (xs : List (Option X)) → length cs ≤ i → AllReady fits (take i cs) xs → AllReady fits cs xs
   rooms_all cs i xs le a = rw (take_all i cs le) at a
 
-  pub rooms_next : (cs : List (Call Q)) (i : ℕ) (c : Call Q) (xs ys : List (Option X)) (x : Option X) → i < length cs → c ≡ get_or cs i c → xs ≡ x ∷ ys → AllReady fits (drop i cs) xs → Ready fits c x × AllReady fits (drop (i + 1) cs) ys
-  rooms_next cs i c xs ys x lt e ex a =
-      let front : drop i cs ≡ c ∷ drop (i + 1) cs = drop_more cs i c lt ∙ ap (λ z. z ∷ drop (i + 1) cs) (sym e) in
-      rw (front, ex) at a
+  -- each turn has a call and the room for it
+  pub turn_ready : (cs : List (Call Q)) (xs : List (Option X)) (i : ℕ) (c : Call Q) (x : Option X) → AllReady fits cs xs → (i < length (zip cs xs)) × ((c, x) ≡ get_or (zip cs xs) i (c, x)) → (i < length cs) × (c ≡ get_or cs i c) × Ready fits c x
+  turn_ready [] xs i c x a h = absurd (omega (arith, h.0))
+  turn_ready (d ∷ cs) [] i c x a h = absurd a
+  turn_ready (d ∷ cs) (y ∷ ys) zero c x a h = (omega arith, ap (λ p. p.0) h.1, subst (λ (p : Call Q × Option X). Ready fits p.0 p.1) (sym h.1) a.0)
+  turn_ready (d ∷ cs) (y ∷ ys) (suc i) c x a h = let t = turn_ready cs ys i c x a.1 (omega (arith, h.0), h.1) in (omega (arith, t.0), t.1, t.2)
+
+  pub turns_all : (cs : List (Call Q)) (xs : List (Option X)) → AllReady fits cs xs → length (zip cs xs) ≡ length cs
+  turns_all [] xs a = refl
+  turns_all (d ∷ cs) [] a = absurd a
+  turns_all (d ∷ cs) (y ∷ ys) a = ap suc (turns_all cs ys a.1)
 
 -- the run of the calls
 

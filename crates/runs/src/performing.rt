@@ -1,5 +1,5 @@
 ghost use Rattle.std.specs.Prelude.{◌≡◌, ◌+◌, ◌<◌, ◌≤◌, map, length, IfOk, vec_len, vec_capacity, MatchResult};
-ghost use Rattle.machine.specs.Walks.{place};
+ghost use Rattle.machine.specs.Standing.{stands};
 ghost use Rattle.runs.specs.Readings.{Reads, meant, Ready, AllReady};
 ghost use Rattle.runs.specs.Runs.{Did, Performed, RunLaw, latest_first};
 ghost use Rattle.machine.specs.declared.walks.Probe.{Probe as Taken};
@@ -16,15 +16,14 @@ pub fn perform<M: Readable>(
     calls: &[Call<M::Query>],
     heap: Global,
 ) -> Result<Vec<Answer<M::Reply>>, AllocError>
-    ensures performed { MatchResult result (λ v. Performed M.Machine.next M.Machine.turned (Reads M.Machine.state M.reading) (place (M.Machine.state walk.old.machine) walk.old.sum.value) calls.now (map (meant M.told) v.items) (place (M.Machine.state walk.new.machine) walk.new.sum.value)) (λ _. walk.new ≡ walk.old) }
+    ensures performed { MatchResult result (λ v. Performed M.Machine.next M.Machine.turned (Reads M.Machine.state M.reading) (stands M.Machine.state walk.old) calls.now (map (meant M.told) v.items) (stands M.Machine.state walk.new)) (λ _. walk.new ≡ walk.old) }
     ensures law { RunLaw M.Machine.next M.Machine.turned (Reads M.Machine.state M.reading) }
 {
     let rooms = rooms_for::<M>(calls, heap)?;
     let mut answers = Vec::with_capacity(heap, calls.len())?;
     let mut probes = Vec::with_capacity(heap, calls.len())?;
-    let mut rooms = rooms.into_iter();
-    for call in calls {
-        let answer = perform_one(walk, call, &mut probes, rooms.next().unwrap());
+    for (call, room) in calls.iter().zip(rooms) {
+        let answer = perform_one(walk, call, &mut probes, room);
         answers.push_reserved(answer);
     }
     keep_all(walk, probes);
@@ -50,7 +49,7 @@ fn perform_one<M: Readable>(
 ) -> Answer<M::Reply>
     requires ready { Ready M.fits call.now room }
     requires space { vec_len probes.old < vec_capacity probes.old }
-    ensures did { Did M.Machine.next M.Machine.turned (Reads M.Machine.state M.reading) (place (M.Machine.state walk.old.machine) walk.old.sum.value) (latest_first (λ (p : Taken). p.sum.value) probes.old.items) call.now (meant M.told result) (place (M.Machine.state walk.new.machine) walk.new.sum.value) (latest_first (λ (p : Taken). p.sum.value) probes.new.items) }
+    ensures did { Did M.Machine.next M.Machine.turned (Reads M.Machine.state M.reading) (stands M.Machine.state walk.old) (latest_first (λ (p : Taken). p.sum.value) probes.old.items) call.now (meant M.told result) (stands M.Machine.state walk.new) (latest_first (λ (p : Taken). p.sum.value) probes.new.items) }
     ensures space { (vec_len probes.new ≤ vec_len probes.old + 1) × (vec_capacity probes.new ≡ vec_capacity probes.old) }
 {
     match call {

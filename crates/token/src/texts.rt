@@ -20,11 +20,11 @@ impl Text for IterCell {
 
     fn write(&self, writer: &mut Writer<'_>) {
         match self {
-            IterCell::Number(a) => writer.number(*a as u64),
+            IterCell::Number(a) => writer.number(u64::from(*a)),
             IterCell::Pair(a, b) => {
-                writer.number(*a as u64);
+                writer.number(u64::from(*a));
                 writer.put(b'/');
-                writer.number(*b as u64);
+                writer.number(u64::from(*b));
             }
         }
     }
@@ -36,7 +36,7 @@ impl Text for DataCell {
     fn write(&self, writer: &mut Writer<'_>) {
         match self {
             DataCell::Question => writer.put(b'*'),
-            DataCell::Number(a) => writer.number(*a as u64),
+            DataCell::Number(a) => writer.number(u64::from(*a)),
         }
     }
 }

@@ -1,8 +1,8 @@
 // Lists the walk of a program's token: the text on standard input, a line for each state, and then how the walk ended.
 #![tactic(auto)]
 
-ghost use Rattle.std.specs.Prelude.{◌<◌, T, length, IfOk};
-ghost use Rattle.machine.specs.Walks.{place};
+ghost use Rattle.std.specs.Prelude.{◌<◌, ◌≤◌, length, IfOk, IfSome};
+ghost use Rattle.machine.specs.Standing.{stands};
 ghost use Rattle.token_machine.specs.Tokens.{state_of};
 ghost use Rattle.lab.specs.Listings.{rest_of};
 
@@ -15,22 +15,13 @@ use std::alloc::Global;
 use std::io::{BufWriter, Write};
 use token::DataCell;
 
-// Writes the next line, if there is one.
-fn write_line<W: Write>(
-    out: &mut W,
-    listing: &mut Listing<'_>,
-    line: &mut [u8],
-) -> anyhow::Result<bool>
-    ensures { IfOk result (λ b. (T b → length (rest_of listing.new.stage (place (state_of listing.new.walk.machine) listing.new.walk.sum.value)) < length (rest_of listing.old.stage (place (state_of listing.old.walk.machine) listing.old.walk.sum.value)))) }
+// The length of the next line, which then stands in the buffer, if there is one.
+fn next_line(listing: &mut Listing<'_>, line: &mut [u8]) -> anyhow::Result<Option<usize>>
+    ensures { IfOk result (λ next. IfSome next (λ n. (n ≤ length line.new) × (length (rest_of listing.new.stage (stands state_of listing.new.walk)) < length (rest_of listing.old.stage (stands state_of listing.old.walk))))) }
 {
-    match listing.next_line(line) {
-        Ok(Some(n)) => {
-            out.write_all(&line[0..n])?;
-            Ok(true)
-        }
-        Ok(None) => Ok(false),
-        Err(_) => Err(anyhow!("a line is longer than the buffer")),
-    }
+    listing
+        .next_line(line)
+        .map_err(|_| anyhow!("a line is longer than the buffer"))
 }
 
 fn write_all_lines<W: Write>(
@@ -38,7 +29,9 @@ fn write_all_lines<W: Write>(
     listing: &mut Listing<'_>,
     line: &mut [u8],
 ) -> anyhow::Result<()> {
-    while write_line(out, listing, line)? {}
+    while let Some(n) = next_line(listing, line)? {
+        out.write_all(&line[0..n])?;
+    }
     Ok(())
 }
 

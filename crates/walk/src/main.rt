@@ -7,7 +7,7 @@ use input::read_text;
 use lab::{Reserve, line_buffer, open, perform, show_text};
 use machine::{Grant, Walk};
 use network::Builder;
-use plan::{Plan, read_words};
+use plan::{NoPlan, Plan, read_words};
 use runs::{Answer, Call};
 use std::alloc::Global;
 use std::io::{BufWriter, Read, Write};
@@ -30,10 +30,7 @@ fn write_call<W: Write>(out: &mut W, call: &Call<Query>) -> io::Result<()> {
 fn write_grant<W: Write>(out: &mut W, grant: Grant) -> io::Result<()> {
     match grant {
         (steps, None) => writeln!(out, "granted {steps}"),
-        (steps, Some(reason)) => {
-            let number = reason.number();
-            writeln!(out, "granted {steps}, stopped by {number}")
-        }
+        (steps, Some(reason)) => writeln!(out, "granted {steps}, stopped by {reason}"),
     }
 }
 
@@ -45,8 +42,7 @@ fn write_reply<W: Write>(out: &mut W, reply: &Reply) -> io::Result<()> {
         },
         Reply::Number(Ok(n)) => writeln!(out, "{n}"),
         Reply::Shown(Err(reason), _) | Reply::Number(Err(reason)) => {
-            let number = reason.number();
-            writeln!(out, "none, because of {number}")
+            writeln!(out, "none, because of {reason}")
         }
     }
 }
@@ -100,9 +96,10 @@ fn obey<W: Write, R: Read + Drop>(
     words: &[String],
     input: R,
 ) -> anyhow::Result<()> {
-    match read_words(words, heap)? {
+    match read_words(words, heap) {
         Ok(plan) => follow(out, heap, &read_text(heap, input)?, &plan)?,
-        Err(word) => writeln!(out, "not known here: {word}")?,
+        Err(NoPlan::Memory(error)) => return Err(error.into()),
+        Err(told) => writeln!(out, "{told}")?,
     }
     Ok(())
 }

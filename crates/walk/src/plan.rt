@@ -1,11 +1,14 @@
 // The words that ask for a walk, read one after another.
-ghost use Rattle.std.specs.Prelude.{◌≡◌, false, [], ◌∷◌, ◌++◌, map, string_bytes, IfOk, MatchResult, Some, None, OnOk};
+ghost use Rattle.std.specs.Prelude.{◌≡◌, false, [], ◌∷◌, ◌++◌, map, string_bytes, MatchResult, Some, None, OnOk};
 ghost use Rattle.token.specs.declared.memory.DataCell.TheVariants.{Question};
-ghost use Rattle.walk.specs.Words.{Named, Wants, Becomes, Counts, Taken, Planned, NotKnown};
+ghost use Rattle.walk.specs.declared.plan.NoPlan.TheVariants.{Memory};
+ghost use Rattle.walk.specs.Words.{Named, Wants, Becomes, Counts, Planned};
+ghost use Rattle.walk.specs.Refusing.{told_text, Took, Unplanned};
 
 use lab::LINE;
 use runs::Call;
 use std::alloc::{AllocError, Global};
+use std::fmt;
 use token::DataCell;
 use token_machine::Query;
 
@@ -28,20 +31,48 @@ pub struct Plan {
     begun: bool,
 }
 
-// Reads the words one after another, or gives the first that is not known where it stands.
-pub fn read_words(words: &[String], heap: Global) -> Result<Result<Plan, String>, AllocError>
-    ensures { IfOk result (λ r. MatchResult r (Planned (map string_bytes words.now)) (λ told. NotKnown (map string_bytes words.now) (string_bytes told))) }
+// Why words ask for no walk.
+#[derive(Debug, Drop)]
+pub enum NoPlan<'w> {
+    // A word that is not known where it stands.
+    NotKnown(&'w str),
+    // The words end where a number is wanted.
+    NoNumber,
+    Memory(AllocError),
+}
+
+impl From<AllocError> for NoPlan<'_> {
+    ghost from_gives = { λ error told. told ≡ Memory error };
+
+    fn from(error: AllocError) -> Self {
+        NoPlan::Memory(error)
+    }
+}
+
+impl fmt::Display for NoPlan<'_> {
+    ghost output = { λ told. Some (told_text told) };
+
+    fn fmt<W: fmt::Write>(&self, f: &mut fmt::Formatter<W>) -> fmt::Result {
+        match self {
+            NoPlan::NotKnown(word) => write!(f, "not known here: {word}"),
+            NoPlan::NoNumber => write!(f, "not known here: the end, for a number"),
+            NoPlan::Memory(_) => write!(f, "out of memory"),
+        }
+    }
+}
+
+// Reads the words one after another, or names the first that is not known where it stands.
+pub fn read_words<'w>(words: &'w [String], heap: Global) -> Result<Plan, NoPlan<'w>>
+    ensures { MatchResult result (Planned (map string_bytes words.now)) (Unplanned (map string_bytes words.now)) }
 {
     let mut plan = Plan::new(heap);
     for word in words {
-        if !plan.take(word.as_str())? {
-            return Ok(Err(word.clone()?));
-        }
+        plan.take(word.as_str())?;
     }
     if plan.waiting.is_some() {
-        return Ok(Err(String::from_str(heap, "the end, for a number")?));
+        return Err(NoPlan::NoNumber);
     }
-    Ok(Ok(plan))
+    Ok(plan)
 }
 
 impl Plan {
@@ -57,9 +88,9 @@ impl Plan {
         }
     }
 
-    // Takes one word more, and says whether it is known where it stands.
-    fn take(&mut self, word: &str) -> Result<bool, AllocError>
-        ensures { IfOk result (Taken self.old.waiting word.now self.old self.new) }
+    // Takes one word more, if it is known where it stands.
+    fn take<'w>(&mut self, word: &'w str) -> Result<(), NoPlan<'w>>
+        ensures { Took self.old.waiting word.now self.old self.new result }
     {
         match self.waiting {
             Some(counted) => self.take_number(counted, word),
@@ -68,26 +99,29 @@ impl Plan {
     }
 
     // Takes the number that the word before wants.
-    fn take_number(&mut self, counted: Counted, word: &str) -> Result<bool, AllocError>
-        ensures { IfOk result (Taken (Some counted) word.now self.old self.new) }
+    fn take_number<'w>(&mut self, counted: Counted, word: &'w str) -> Result<(), NoPlan<'w>>
+        ensures { Took (Some counted) word.now self.old self.new result }
     {
         let Ok(n) = word.parse::<u32>() else {
-            return Ok(false);
+            return Err(NoPlan::NotKnown(word));
         };
         self.count(counted, n)?;
-        Ok(true)
+        Ok(())
     }
 
-    fn take_word(&mut self, word: &str) -> Result<bool, AllocError>
-        ensures { IfOk result (Taken None word.now self.old self.new) }
+    fn take_word<'w>(&mut self, word: &'w str) -> Result<(), NoPlan<'w>>
+        ensures { Took None word.now self.old self.new result }
     {
         if let Some(call) = call_of(word) {
             self.add(call)?;
-            return Ok(true);
+            return Ok(());
         }
-        self.waiting = counted_of(word, self.begun);
+        let Some(counted) = counted_of(word, self.begun) else {
+            return Err(NoPlan::NotKnown(word));
+        };
+        self.waiting = Some(counted);
         self.begun = true;
-        Ok(self.waiting.is_some())
+        Ok(())
     }
 
     // Takes the number after a word.

@@ -1,11 +1,12 @@
 -- One text written after another.
-use Rattle.std.proofs.Common.{◌≡◌, ℕ, ◌+◌, ◌-◌, ◌^◌, ◌<◌, ◌≤◌, min, true, false, List, [], ◌∷◌, ◌++◌, reverse, length, get_or, take, drop, set, ℤ, pos, negsuc, nat_abs, decimal, sym, refl, ap, ◌∙◌, subst, inl, inr, append_assoc, append-nil, add-zero, add-one, arith, length-append, length-drop, length-set, take-append-drop, length-take}
+use Rattle.std.proofs.Common.{◌≡◌, ℕ, ◌+◌, ◌-◌, ◌^◌, ◌<◌, ◌≤◌, min, true, false, List, [], ◌∷◌, ◌++◌, reverse, length, get_or, take, drop, set, map, Bor, ℤ, pos, negsuc, nat_abs, decimal, sym, refl, ap, ◌∙◌, subst, inl, inr, append_assoc, append-nil, add-zero, add-one, arith, length-append, length-set, take-append-drop, length-take}
 use lib.Seq.{paste, set_split, take-append_seam, take-append-le}
 use lib.Signed.{lt_z}
 use Rattle.std.specs.Fmt.{signed_decimal}
 use borrow.Author.Tests.{ltb-true}
 use Rattle.std.proofs.lemmas.List.Edits.{paste_all, paste-paste}
-use Rattle.std.proofs.lemmas.List.{take_all, drop_more, drop_all, reverse-append, length-reverse}
+use Rattle.std.specs.List.{flat_map}
+use Rattle.std.proofs.lemmas.List.{take_all, drop_more, drop_all, reverse-append, flat_map_more}
 use Rattle.std.proofs.lemmas.Bool.Decides.{leb_tells}
 use Rattle.writer.specs.declared.Writer.{Writer}
 use Rattle.writer.specs.Written.{laid, Puts, Wrote, joined, listed}
@@ -98,58 +99,21 @@ pub signed_pos : (z y : ℤ) (m : ℕ) → y ≡ z → lt_z y (pos 0) ≡ false 
 signed_pos z (pos n) m e h a = ap decimal a ∙ ap signed_decimal e
 signed_pos z (negsuc n) m e h a = cc
 
--- one cell more at the end of a list
+-- one cell more, behind a comma
+pub cell_put : {X : Type 0} (text : X → List ℕ) (ys : List (Bor X)) (y : Bor X) {s t u v : Writer} → Wrote s (flat_map (λ x. 44 ∷ text x.now) ys) t → Wrote t (44 ∷ []) u → Wrote u (text y.now) v → Wrote s (flat_map (λ x. 44 ∷ text x.now) (ys ++ (y ∷ []))) v
+cell_put text ys y p q r = wrote_is (flat_map_more (λ x. 44 ∷ text x.now) [] ys y) (wrote_more _ _ p (wrote_more _ _ q r))
 
-abbrev pub comma : {X : Type 0} → List X → List ℕ
-comma [] = []
-comma (x ∷ xs) = 44 ∷ []
+joined_commas : {X : Type 0} (text : X → List ℕ) (x : X) (ys : List (Bor X)) → text x ++ flat_map (λ y. 44 ∷ text y.now) ys ≡ joined text (x ∷ map (λ y. y.now) ys)
+joined_commas text x [] = append-nil (text x)
+joined_commas text x (y ∷ ys) = ap (λ l. text x ++ (44 ∷ l)) (joined_commas text y.now ys)
 
-joined_more : {X : Type 0} (text : X → List ℕ) (xs : List X) (x : X) → joined text (xs ++ (x ∷ [])) ≡ (joined text xs ++ comma xs) ++ text x
-joined_more text [] x = refl
-joined_more text (y ∷ []) x = sym (append_assoc (text y) (44 ∷ []) (text x))
-joined_more text (y ∷ (z ∷ zs)) x =
-    ap (λ l. text y ++ (44 ∷ l)) (joined_more text (z ∷ zs) x)
-    ∙ sym (append_assoc (text y) (44 ∷ (joined text (z ∷ zs) ++ (44 ∷ []))) (text x))
-    ∙ ap (λ l. l ++ text x) (sym (append_assoc (text y) (44 ∷ joined text (z ∷ zs)) (44 ∷ [])))
+-- the top of a stack, and the cells below it from the top down
+turned : {X : Type 0} (xs : List X) (x : X) → 0 < length xs → x ≡ get_or xs (length xs - 1) x → reverse xs ≡ x ∷ reverse (take (length xs - 1) xs)
+turned xs x h e =
+    let k = length xs - 1 in
+    let last : drop k xs ≡ x ∷ [] = drop_more xs k x (omega arith) ∙ ap (λ y. y ∷ drop (k + 1) xs) (sym e) ∙ ap (λ l. x ∷ l) (drop_all (k + 1) xs (omega arith)) in
+    ap reverse (sym (take-append-drop k xs) ∙ ap (λ l. take k xs ++ l) last) ∙ reverse-append (take k xs) (x ∷ [])
 
-comma_some : {X : Type 0} (xs : List X) → 0 < length xs → comma xs ≡ 44 ∷ []
-comma_some [] h = absurd (omega arith)
-comma_some (x ∷ xs) h = refl
-
-comma_none : {X : Type 0} (xs : List X) → length xs ≡ 0 → comma xs ≡ []
-comma_none [] h = refl
-comma_none (x ∷ xs) h = absurd (omega arith)
-
-listed_some : {X : Type 0} (text : X → List ℕ) (xs : List X) → 0 < length xs → joined text xs ≡ listed text xs
-listed_some text [] h = absurd (omega arith)
-listed_some text (x ∷ xs) h = refl
-
--- what is written of a stack when its cells from i on are
-pub begun : {X : Type 0} (text : X → List ℕ) (xs : List X) (s : Writer) → Wrote s (joined text (reverse (drop (length xs) xs))) s
-begun text xs s = wrote_is (ap (λ ys. joined text (reverse ys)) (sym (drop_all (length xs) xs (omega arith)))) (wrote_none s)
-
-pub comma_put : {X : Type 0} (text : X → List ℕ) (xs : List X) (i : ℕ) {s t u : Writer} → i < length xs → Wrote s (joined text (reverse (drop i xs))) t → Wrote t (44 ∷ []) u → Wrote s (joined text (reverse (drop i xs)) ++ comma (reverse (drop i xs))) u
-comma_put text xs i h p q =
-    let long = length-reverse (drop i xs) in
-    wrote_is (ap (λ (l : List ℕ). joined text (reverse (drop i xs)) ++ l) (sym (comma_some (reverse (drop i xs)) (omega (arith, long, length-drop i xs))))) (wrote_more _ _ p q)
-
-pub comma_left : {X : Type 0} (text : X → List ℕ) (xs : List X) (i : ℕ) {s t : Writer} → length xs ≤ i → Wrote s (joined text (reverse (drop i xs))) t → Wrote s (joined text (reverse (drop i xs)) ++ comma (reverse (drop i xs))) t
-comma_left text xs i h p =
-    let long = length-reverse (drop i xs) in
-    wrote_is (sym (ap (λ (l : List ℕ). joined text (reverse (drop i xs)) ++ l) (comma_none (reverse (drop i xs)) (omega (arith, long, length-drop i xs))) ∙ append-nil _)) p
-
-pub cell_put : {X : Type 0} (text : X → List ℕ) (xs : List X) (i : ℕ) (x : X) {s t u : Writer} → 0 < i → i ≤ length xs → x ≡ get_or xs (i - 1) x → Wrote s (joined text (reverse (drop i xs)) ++ comma (reverse (drop i xs))) t → Wrote t (text x) u → Wrote s (joined text (reverse (drop (i - 1) xs))) u
-cell_put text xs i x h k e p q =
-    let back : i - 1 + 1 ≡ i = omega arith in
-    let one : drop (i - 1) xs ≡ x ∷ drop i xs = drop_more xs (i - 1) x (omega arith) ∙ ap (λ y. y ∷ drop (i - 1 + 1) xs) (sym e) ∙ ap (λ j. x ∷ drop j xs) back in
-    let turned : reverse (drop (i - 1) xs) ≡ reverse (drop i xs) ++ (x ∷ []) = ap reverse one ∙ reverse-append (x ∷ []) (drop i xs) in
-    wrote_is (sym (ap (joined text) turned ∙ joined_more text (reverse (drop i xs)) x)) (wrote_more _ _ p q)
-
-pub none_put : {X : Type 0} (text : X → List ℕ) (xs : List X) {s t : Writer} → length xs ≡ 0 → Wrote s (45 ∷ []) t → Wrote s (listed text (reverse xs)) t
-none_put text [] h p = p
-none_put text (x ∷ xs) h p = absurd (omega arith)
-
-pub all_put : {X : Type 0} (text : X → List ℕ) (xs : List X) (i : ℕ) {s t : Writer} → 0 < length xs → i ≡ 0 → Wrote s (joined text (reverse (drop i xs))) t → Wrote s (listed text (reverse xs)) t
-all_put text xs i h e p =
-    let long = length-reverse xs in
-    wrote_is (ap (λ j. joined text (reverse (drop j xs))) e ∙ listed_some text (reverse xs) (omega (arith, long))) p
+pub all_put : {X : Type 0} (text : X → List ℕ) (xs : List X) (x : X) (ys : List (Bor X)) {s t u : Writer} → 0 < length xs → x ≡ get_or xs (length xs - 1) x → map (λ y. y.now) ys ≡ reverse (take (length xs - 1) xs) → Wrote s (text x) t → Wrote t (flat_map (λ y. 44 ∷ text y.now) ys) u → Wrote s (listed text (reverse xs)) u
+all_put text xs x ys h e f p q =
+    wrote_is (joined_commas text x ys ∙ ap (λ l. listed text (x ∷ l)) f ∙ ap (listed text) (sym (turned xs x h e))) (wrote_more _ _ p q)

@@ -3,7 +3,9 @@
 
 ghost use Rattle.std.specs.Prelude.{ℕ, List, [], ◌∷◌, reverse, decimal};
 ghost use Rattle.std.specs.Fmt.{signed_decimal};
-ghost use Rattle.writer.specs.Written.{Wrote, listed};
+ghost use Rattle.writer.specs.Written.{Wrote, Shown, listed};
+
+use machine::Reason;
 
 // The buffer, and how many bytes have been put. Bytes past the buffer's end are counted and go nowhere,
 // so a text is measured by writing it to an empty buffer.
@@ -13,7 +15,7 @@ pub struct Writer<'a> {
     pub at: usize,
 }
 
-// What a writer can write.
+// What a writer can write. Not `Display`: its `fmt` may fail as it likes, and then showing a text had no answer.
 pub trait Text {
     ghost text: { Self → List ℕ };
 
@@ -61,17 +63,31 @@ impl Writer<'_> {
     pub fn stack<C: Text>(&mut self, cells: &[C])
         ensures { Wrote self.old (listed C.text (reverse cells.now)) self.new }
     {
-        if cells.is_empty() {
+        let [below @ .., top] = cells else {
             self.put(b'-');
             return;
-        }
-        let mut i = cells.len();
-        while i > 0 {
-            if i < cells.len() {
-                self.put(b',');
-            }
-            i -= 1;
-            cells[i].write(self);
+        };
+        top.write(self);
+        for cell in below.iter().rev() {
+            self.put(b',');
+            cell.write(self);
         }
     }
+}
+
+// Writes a text to the front of the buffer and returns its length; or leaves the buffer as it was.
+pub fn show_text<T: Text>(content: &T, buf: &mut [u8]) -> Result<usize, Reason>
+    ensures { Shown (T.text content.now) buf.old buf.new result }
+{
+    let mut measure = Writer {
+        buf: &mut [],
+        at: 0,
+    };
+    content.write(&mut measure);
+    if measure.at > buf.len() {
+        return Err(Reason::ShortBuffer);
+    }
+    let mut writer = Writer { buf, at: 0 };
+    content.write(&mut writer);
+    Ok(writer.at)
 }

@@ -1,9 +1,9 @@
 use Rattle.std.proofs.Common.{length}
-use Rattle.machine.specs.Walks.{place}
+use Rattle.machine.specs.Standing.{stands}
 use Rattle.token_machine.specs.Tokens.{state_of}
 use Rattle.lab.specs.Listings.{rest_of}
 use Rattle.tracer.proofs.write_all_lines.Given as goal
 
 -- the lines that are still to be listed
 abbrev pub decreases-loop : goal.decreases-loop
-decreases-loop g l = length (rest_of l.listing.stage (place (state_of l.listing.walk.machine) l.listing.walk.sum.value))
+decreases-loop g l = length (rest_of l.listing.stage (stands state_of l.listing.walk))
