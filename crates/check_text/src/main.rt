@@ -19,36 +19,13 @@ fn examine(workspace: &mut Workspace, text: &[u8]) -> Result<Facts, Refusal>
     Ok(program.facts)
 }
 
-fn counts_line(heap: Global, facts: Facts) -> Result<String, AllocError>
-    ensures { IfOk result (λ s. string_bytes s ≡ counts_text facts) }
-{
-    let Facts {
-        subterms,
-        iterators,
-        successors,
-        height,
-        weight,
-    } = facts;
-    format!(in heap;
-        "subterms={subterms} iterators={iterators} successors={successors} height={height} weight={weight}"
-    )
-}
-
-fn refusal_line(heap: Global, refusal: Refusal) -> Result<String, AllocError>
-    ensures { IfOk result (λ s. string_bytes s ≡ refusal_text refusal) }
-{
-    let fault = refusal.fault.number();
-    let place = refusal.place;
-    format!(in heap; "refused={fault} place={place}")
-}
-
 // The line that answers a text.
 fn answer(heap: Global, workspace: &mut Workspace, text: &[u8]) -> Result<String, AllocError>
     ensures { IfOk result (λ s. Answer text.now (string_bytes s)) }
 {
     match examine(workspace, text) {
-        Ok(facts) => counts_line(heap, facts),
-        Err(refusal) => refusal_line(heap, refusal),
+        Ok(facts) => format!(in heap; "{facts}"),
+        Err(refusal) => format!(in heap; "{refusal}"),
     }
 }
 

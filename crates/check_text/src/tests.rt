@@ -4,44 +4,39 @@ use grammar::accept;
 use language::counts::Facts;
 use language::workspace::Workspace;
 use std::alloc::{AllocError, Global};
+use std::process::Abort;
 use std::test::Fail;
 use syntax::refusal::{Fault, Refusal};
 
 // Why a text is refused, if it is.
 fn refused(workspace: &mut Workspace, text: &[u8]) -> Option<Refusal> {
-    match accept(text, workspace) {
-        Ok(_) => None,
-        Err(refusal) => Some(refusal),
-    }
+    accept(text, workspace).err()
 }
 
 // Texts that are refused, with the fault and its place.
-fn refusal(case: usize) -> (&'static [u8], Fault, usize) {
-    match case {
-        0 => (b"", Fault::WrongSign, 0),
-        1 => (b" \n", Fault::WrongSign, 2),
-        2 => (b"(\\x:N.S x S)", Fault::WrongSign, 11),
-        3 => (b"007", Fault::WrongSign, 0),
-        4 => (b"3 4", Fault::WrongSign, 2),
-        5 => (b"1000000001", Fault::LargeNumber, 0),
-        6 => (b"x", Fault::Unbound, 0),
-        7 => (b"\\x:N.(\\x:N.x x)", Fault::BoundTwice, 7),
-        8 => (b"\\x:N.<x,x>", Fault::UsedTwice, 8),
-        9 => (b"\\x:N.y", Fault::Unused, 1),
-        10 => (b"let <x,x> = <1,2> in x", Fault::Unused, 5),
-        11 => (b"(3 4)", Fault::IllTyped, 0),
-        12 => (b"let <x,y> = 3 in (x y)", Fault::IllTyped, 0),
-        13 => (b"let <x,y> = <1,2> in (x y)", Fault::IllTyped, 21),
-        14 => (b"iter 1 \\x:N.<x,1> 3", Fault::IllTyped, 0),
-        _ => (b"\\x:N.x", Fault::NoNumber, 0),
-    }
-}
+const REFUSALS: [(&[u8], Fault, usize); 16] = [
+    (b"", Fault::WrongSign, 0),
+    (b" \n", Fault::WrongSign, 2),
+    (b"(\\x:N.S x S)", Fault::WrongSign, 11),
+    (b"007", Fault::WrongSign, 0),
+    (b"3 4", Fault::WrongSign, 2),
+    (b"1000000001", Fault::LargeNumber, 0),
+    (b"x", Fault::Unbound, 0),
+    (b"\\x:N.(\\x:N.x x)", Fault::BoundTwice, 7),
+    (b"\\x:N.<x,x>", Fault::UsedTwice, 8),
+    (b"\\x:N.y", Fault::Unused, 1),
+    (b"let <x,x> = <1,2> in x", Fault::Unused, 5),
+    (b"(3 4)", Fault::IllTyped, 0),
+    (b"let <x,y> = 3 in (x y)", Fault::IllTyped, 0),
+    (b"let <x,y> = <1,2> in (x y)", Fault::IllTyped, 21),
+    (b"iter 1 \\x:N.<x,1> 3", Fault::IllTyped, 0),
+    (b"\\x:N.x", Fault::NoNumber, 0),
+];
 
 #[test]
 fn refusals(rt: HostRuntime) -> Result<(), Fail> {
     let mut workspace = Workspace::new(rt.alloc())?;
-    for case in 0..16 {
-        let (text, fault, place) = refusal(case);
+    for (text, fault, place) in REFUSALS {
         assert_eq!(rt;
             refused(&mut workspace, text),
             Some(Refusal { fault, place })
@@ -121,54 +116,44 @@ fn iterators(heap: Global, count: u8) -> Result<Vec<u8>, AllocError> {
     Ok(text)
 }
 
+// A text is answered so; one at a limit passes it, though it may be refused by a later question.
+fn answered(
+    rt: &impl Abort,
+    workspace: &mut Workspace,
+    text: &[u8],
+    outcome: Option<(Fault, usize)>,
+) {
+    assert_eq!(rt;
+        refused(workspace, text),
+        outcome.map(|(fault, place)| Refusal { fault, place })
+    );
+}
+
 // Texts at a limit and beside it.
-fn limit(heap: Global, case: usize) -> Result<Vec<u8>, AllocError> {
-    match case {
-        0 => run_of(heap, b" ", 16_383, b"3"),
-        1 => run_of(heap, b" ", 16_384, b"3"),
-        2 => run_of(heap, b"9", 16_384, b""),
-        3 => run_of(heap, b"0", 9_000, b"1"),
-        4 => run_of(heap, b"S", 127, b"3"),
-        5 => run_of(heap, b"S", 128, b"3"),
-        6 => tall(heap, 63, b".x"),
-        7 => tall(heap, 63, b".<x,1>"),
-        8 => tall(heap, 64, b".x"),
-        9 => wide(heap, b"S ", b'3', *b"<,>", b""),
-        10 => wide(heap, b"S S ", b'3', *b"<,>", b""),
-        11 => wide(heap, b"\\x:", b'N', *b"(*)", b".\\y:N.<x,y>"),
-        12 => wide(heap, b"\\x:", b'N', *b"(*)", b".\\y:(N*N).<x,y>"),
-        13 => iterators(heap, 64),
-        _ => iterators(heap, 65),
-    }
-}
-
-// What they are answered: those at a limit pass it, though some are refused by a later question.
-fn outcome(case: usize) -> Option<Refusal> {
-    let (fault, place) = match case {
-        0 | 4 | 13 => return None,
-        1 => (Fault::TooLong, 0),
-        2 => (Fault::LargeNumber, 0),
-        3 => (Fault::WrongSign, 0),
-        5 => (Fault::PassedLimit, 128),
-        6 => (Fault::NoNumber, 0),
-        7 => (Fault::HighType, 0),
-        8 => (Fault::PassedLimit, 193),
-        9 => (Fault::IllTyped, 0),
-        10 => (Fault::PassedLimit, 4086),
-        11 => (Fault::NoNumber, 0),
-        12 => (Fault::PassedLimit, 4102),
-        _ => (Fault::ManyIterators, 0),
-    };
-    Some(Refusal { fault, place })
-}
-
 #[test]
 fn limits(rt: HostRuntime) -> Result<(), Fail> {
-    let mut workspace = Workspace::new(rt.alloc())?;
-    for case in 0..15 {
-        let text = limit(rt.alloc(), case)?;
-        assert_eq!(rt; refused(&mut workspace, &text), outcome(case));
-    }
+    let heap = rt.alloc();
+    let mut workspace = Workspace::new(heap)?;
+    let w = &mut workspace;
+    answered(&rt, w, &run_of(heap, b" ", 16_383, b"3")?, None);
+    answered(&rt, w, &run_of(heap, b" ", 16_384, b"3")?, Some((Fault::TooLong, 0)));
+    answered(&rt, w, &run_of(heap, b"9", 16_384, b"")?, Some((Fault::LargeNumber, 0)));
+    answered(&rt, w, &run_of(heap, b"0", 9_000, b"1")?, Some((Fault::WrongSign, 0)));
+    answered(&rt, w, &run_of(heap, b"S", 127, b"3")?, None);
+    answered(&rt, w, &run_of(heap, b"S", 128, b"3")?, Some((Fault::PassedLimit, 128)));
+    answered(&rt, w, &tall(heap, 63, b".x")?, Some((Fault::NoNumber, 0)));
+    answered(&rt, w, &tall(heap, 63, b".<x,1>")?, Some((Fault::HighType, 0)));
+    answered(&rt, w, &tall(heap, 64, b".x")?, Some((Fault::PassedLimit, 193)));
+    let pairs = *b"<,>";
+    answered(&rt, w, &wide(heap, b"S ", b'3', pairs, b"")?, Some((Fault::IllTyped, 0)));
+    answered(&rt, w, &wide(heap, b"S S ", b'3', pairs, b"")?, Some((Fault::PassedLimit, 4086)));
+    let products = *b"(*)";
+    let whole = wide(heap, b"\\x:", b'N', products, b".\\y:N.<x,y>")?;
+    answered(&rt, w, &whole, Some((Fault::NoNumber, 0)));
+    let past = wide(heap, b"\\x:", b'N', products, b".\\y:(N*N).<x,y>")?;
+    answered(&rt, w, &past, Some((Fault::PassedLimit, 4102)));
+    answered(&rt, w, &iterators(heap, 64)?, None);
+    answered(&rt, w, &iterators(heap, 65)?, Some((Fault::ManyIterators, 0)));
     Ok(())
 }
 
@@ -194,33 +179,30 @@ fn counts(rt: HostRuntime) -> Result<(), Fail> {
 }
 
 // Texts, with the lines that answer them.
-fn line(case: usize) -> (&'static [u8], &'static str) {
-    match case {
-        0 => (
-            b"3",
-            "subterms=1 iterators=0 successors=0 height=0 weight=1",
-        ),
-        1 => (
-            b"let <x,y> = <\\z:N.z,7> in (x y)",
-            "subterms=8 iterators=0 successors=0 height=2 weight=11",
-        ),
-        2 => (
-            b"iter 2 \\x:N.S x 3",
-            "subterms=6 iterators=1 successors=1 height=1 weight=7",
-        ),
-        3 => (b"(3 4)", "refused=9 place=0"),
-        _ => (b"\\x:N.<x,x>", "refused=7 place=8"),
-    }
-}
+const LINES: [(&[u8], &str); 5] = [
+    (
+        b"3",
+        "subterms=1 iterators=0 successors=0 height=0 weight=1",
+    ),
+    (
+        b"let <x,y> = <\\z:N.z,7> in (x y)",
+        "subterms=8 iterators=0 successors=0 height=2 weight=11",
+    ),
+    (
+        b"iter 2 \\x:N.S x 3",
+        "subterms=6 iterators=1 successors=1 height=1 weight=7",
+    ),
+    (b"(3 4)", "refused=9 place=0"),
+    (b"\\x:N.<x,x>", "refused=7 place=8"),
+];
 
 #[test]
 fn lines(rt: HostRuntime) -> Result<(), Fail> {
     let heap = rt.alloc();
     let mut workspace = Workspace::new(heap)?;
-    for case in 0..5 {
-        let (text, expected) = line(case);
+    for (text, line) in LINES {
         let told = answer(heap, &mut workspace, text)?;
-        assert_eq!(rt; told.as_str(), expected);
+        assert_eq!(rt; told.as_str(), line);
     }
     Ok(())
 }
