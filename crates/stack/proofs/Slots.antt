@@ -5,6 +5,7 @@ use Rattle.std.specs.List.{between}
 use Rattle.std.proofs.lemmas.Bool.Decides.{nat_tests, leb_tells}
 use Rattle.std.proofs.lemmas.List.{length-take, length-drop}
 use Rattle.std.proofs.lemmas.Slice.{between_is, between-put_mid, drop-put_mid, take-put_mid_below}
+use Rattle.stack.specs.Cells.{slot_room}
 use Rattle.stack.specs.Shelving.{slot}
 
 leb-true : (a b : ℕ) → a ≤ b → leb a b ≡ true
@@ -12,6 +13,12 @@ leb-true a b h = grind (arith, nat_tests)
 
 leb-false : (a b : ℕ) → b < a → leb a b ≡ false
 leb-false a b h = grind (arith, nat_tests)
+
+pub room_in : (n k : ℕ) → 64 * k + 64 ≤ n → slot_room n k ≡ 64
+room_in n k h = ap (λ b. cond b 64 0) (leb-true (64 * k + 64) n h)
+
+pub room_out : (n k : ℕ) → n < 64 * k + 64 → slot_room n k ≡ 0
+room_out n k h = ap (λ b. cond b 64 0) (leb-false (64 * k + 64) n h)
 
 pub slot_in : {X : Type 0} (k : ℕ) (xs : List X) → 64 * k + 64 ≤ length xs → slot k xs ≡ between (64 * k) (64 * k + 64) xs
 slot_in k xs h =

@@ -1,9 +1,8 @@
 -- What a write, one cell more and one cell less make of the cells below a height.
-use Rattle.std.proofs.Common.{◌≡◌, ℕ, zero, suc, ◌+◌, ◌-◌, ◌<◌, ◌≤◌, min, List, [], ◌∷◌, reverse, length, get_or, take, set, sym, refl, ap, ◌∙◌, inl, inr, arith}
+use Rattle.std.proofs.Common.{◌≡◌, ℕ, zero, suc, ◌+◌, ◌-◌, ◌<◌, ◌≤◌, min, List, [], ◌∷◌, Some, reverse, length, get_or, take, set, sym, refl, ap, ◌∙◌, arith}
 use Rattle.std.proofs.lemmas.List.{take_all, length-take, take_more, take_more_set, reverse-append, length-reverse}
-use Rattle.std.proofs.lemmas.Bool.Decides.{leb_tells}
 use Rattle.stack.specs.Cells.{stacked}
-use Rattle.stack.specs.Edits.{rest_of, replaced}
+use Rattle.stack.specs.Edits.{top_of, rest_of, replaced}
 
 -- how many cells lie below a height
 pub stacked-count : {X : Type 0} (xs : List X) (n : ℕ) → length (stacked n xs) ≡ min n (length xs)
@@ -13,20 +12,6 @@ stacked-count xs n = length-reverse (take n xs) ∙ length-take n xs
 pub stacked_none : {X : Type 0} (xs : List X) (n : ℕ) → n ≡ 0 → stacked n xs ≡ []
 unfolding stacked
 stacked_none xs n e = ap (λ k. reverse (take k xs)) e
-
--- past the end there is no more to take
-stacked_past : {X : Type 0} (xs : List X) (n : ℕ) → length xs ≤ n → stacked n xs ≡ reverse xs
-unfolding stacked
-stacked_past xs n h = ap reverse (take_all n xs h)
-
--- the number of cells that lie below a height says as much as the height
-pub stacked-again : {X : Type 0} (xs : List X) (n m : ℕ) → n ≡ length (stacked m xs) → stacked n xs ≡ stacked m xs
-stacked-again xs n m e =
-    let l : n ≡ min m (length xs) = e ∙ stacked-count xs m in
-    elim (leb_tells m (length xs)) [
-      | inl p ↦ let s : n ≡ m = omega (arith, p.1) in ap (λ k. stacked k xs) s
-      | inr p ↦ stacked_past xs n (omega (arith, p.1)) ∙ sym (stacked_past xs m (omega (arith, p.1)))
-    ]
 
 -- the cell at n on top of those below it
 stacked_more : {X : Type 0} (xs : List X) (n : ℕ) (d : X) → n < length xs → stacked (n + 1) xs ≡ get_or xs n d ∷ stacked n xs
@@ -60,3 +45,14 @@ stacked_replace (x ∷ xs) n y p h =
     ap (λ k. stacked k (set (x ∷ xs) (n - 1) y)) e
     ∙ stacked-put (x ∷ xs) (n - 1) y l
     ∙ sym (ap (replaced y) (stacked-last (x ∷ xs) n x p h))
+
+-- the cell below the top
+pub second_is : {X : Type 0} (xs : List X) (d : X) → 2 ≤ length xs → Some (get_or xs (length xs - 2) d) ≡ top_of (rest_of (reverse xs))
+unfolding stacked
+second_is xs d h =
+    let n = length xs in
+    let e : n - 2 ≡ n - 1 - 1 = omega arith in
+    ap (λ k. Some (get_or xs k d)) e
+    ∙ sym (ap (λ ys. top_of (rest_of (reverse ys))) (sym (take_all n xs (omega arith)))
+    ∙ ap (λ ys. top_of (rest_of ys)) (stacked-last xs n d (omega arith) (omega arith))
+    ∙ ap top_of (stacked-last xs (n - 1) d (omega arith) (omega arith)))

@@ -1,7 +1,6 @@
-// Stacks over memory that the host lends: one generic stack, and 64 shelves that rest on the same functions on slices.
+// Stacks over memory that the host lends: one generic stack, and 64 shelves that are such stacks.
 #![tactic(auto)]
 
-mod cells;
 mod edits;
 mod shelving;
 mod stacks;

@@ -1,10 +1,8 @@
-ghost use Rattle.std.specs.Prelude.{◌≡◌, ◌/◌, ◌<◌, min, [], length, replicate, Some, None, ◌==◌, slice_index_or};
-ghost use Rattle.stack.specs.declared.edits.Edit.TheVariants.{Push};
-ghost use Rattle.stack.specs.Edits.{top_of, rest_of, Asked};
-ghost use Rattle.stack.specs.Shelving.{shelves, complete, shelf, with_shelf, shelf_room, cells_held, ShelfAnswered, ShelfPlace};
+ghost use Rattle.std.specs.Prelude.{ℕ, ◌≤◌, length, slice_index};
+ghost use Rattle.stack.specs.Cells.{slot_room};
 
 use crate::Edit;
-use crate::cells::{ask, edit_cells, top_of};
+use crate::stacks::{Stack, ask};
 use machine::Reason;
 
 const SHELVES: usize = 64;
@@ -16,10 +14,18 @@ const DEPTH: usize = 64;
 #[derive(Drop)]
 pub struct Shelves<'a, T> {
     cells: &'a mut [T],
+    // The heights alone, not 64 stacks: those would each hold a slice, and a generic struct has no array of a type parameter.
     heights: [u8; 64],
+    ghost fits: { (k : ℕ) → slice_index heights k ≤ slot_room (length cells.now) k },
 }
 
+#[tactic(auto, using(crate::proofs::Shelved::shelving), unfolding(crate::specs::Shelving::complete))]
 impl<'a, T: Copy> Shelves<'a, T> {
+    ghost use Rattle.std.specs.Prelude.{◌≡◌, ◌/◌, ◌<◌, min, [], reverse, replicate, Some, None, ◌==◌};
+    ghost use Rattle.stack.specs.declared.edits.Edit.TheVariants.{Push};
+    ghost use Rattle.stack.specs.Edits.{top_of, rest_of, Asked};
+    ghost use Rattle.stack.specs.Shelving.{shelves, complete, shelf, with_shelf, shelf_room, cells_held, ShelfAnswered, ShelfPlace};
+
     pub fn new(cells: &'a mut [T]) -> Shelves<'a, T>
         ensures empty { shelves result ≡ replicate 64 [] }
         ensures complete { complete result ≡ min 64 (length cells.old / 64) }
@@ -41,34 +47,28 @@ impl<'a, T: Copy> Shelves<'a, T> {
     fn place(&self, j: u32) -> Option<usize>
         ensures { elim result [ Some k ↦ ShelfPlace self.now j k | None ↦ shelf_room (complete self.now) j ≡ 0 ] }
     {
-        if j > 0 && j as usize <= self.complete() {
-            Some(j as usize - 1)
-        } else {
-            None
-        }
+        let complete = self.complete();
+        (j as usize).checked_sub(1).filter(|k| *k < complete)
     }
 
-    // How many cells the shelf after the first k holds.
-    fn height(&self, k: usize) -> usize
-        requires { k < 64 }
-        ensures { result ≡ length (slice_index_or (shelves self.now) k []) }
+    // The cells in use of shelf j, the top last.
+    fn shelf(&self, j: u32) -> &[T]
+        ensures { shelf j (shelves self.now) ≡ reverse result.now }
     {
-        if k < self.complete() {
-            (self.heights[k] as usize).min(DEPTH)
-        } else {
-            0
+        match self.place(j) {
+            Some(k) => {
+                let start = DEPTH * k;
+                &self.cells[start..start + self.heights[k] as usize]
+            }
+            None => &[],
         }
     }
 
-    // How many cells all the shelves hold: the sum of 64 heights.
+    // How many cells all the shelves hold.
     pub fn count(&self) -> usize
         ensures { result ≡ cells_held (shelves self.now) }
     {
-        let mut n = 0;
-        for k in 0..SHELVES {
-            n += self.height(k);
-        }
-        n
+        self.heights.iter().map(|height| *height as usize).sum()
     }
 
     pub fn is_empty(&self) -> bool
@@ -81,11 +81,7 @@ impl<'a, T: Copy> Shelves<'a, T> {
     pub fn top(&self, j: u32) -> Option<T>
         ensures { result ≡ top_of (shelf j (shelves self.now)) }
     {
-        let k = self.place(j)?;
-        let height = self.height(k);
-        let start = DEPTH * k;
-        let cells: &[T] = self.cells;
-        top_of(&cells[start..start + DEPTH], height)
+        self.shelf(j).last().copied()
     }
 
     // Asks whether shelf j has `n` more free cells.
@@ -93,7 +89,7 @@ impl<'a, T: Copy> Shelves<'a, T> {
         ensures { Asked (shelf_room (complete self.now) j) (length (shelf j (shelves self.now))) n result }
     {
         match self.place(j) {
-            Some(k) => ask(DEPTH, self.height(k), n),
+            Some(k) => ask(DEPTH, self.heights[k] as usize, n),
             None => ask(0, 0, n),
         }
     }
@@ -110,11 +106,17 @@ impl<'a, T: Copy> Shelves<'a, T> {
         let Some(k) = self.place(j) else {
             return ask(0, 0, e.growth());
         };
-        let height = self.height(k);
         let start = DEPTH * k;
-        let height = edit_cells(&mut self.cells[start..start + DEPTH], height, e)?;
-        self.heights[k] = height as u8;
-        Ok(())
+        let cells = &mut self.cells[start..start + DEPTH];
+        let mut stack = Stack {
+            cells: &mut *cells,
+            height: self.heights[k] as usize,
+        };
+        let done = stack.edit(e);
+        self.heights[k] = stack.height as u8;
+        // the stack gives its cells back
+        prove_eq!(cells.len(), DEPTH);
+        done
     }
 
     pub fn push(&mut self, j: u32, x: T) -> Result<(), Reason>

@@ -1,10 +1,17 @@
 -- What the parts of a step come to, put together.
-use Rattle.std.proofs.Common.{◌≡◌, ℕ, zero, suc, ◌+◌, ◌/◌, ◌<◌, ◌≤◌, Bool, true, false, cond, not, ◌&&◌, eqb, ltb, leb, ◌⊎◌, List, [], ◌∷◌, length, get_or, set, Some, None, Ok, Err, Option, Result, sym, refl, ap, ◌∙◌, subst, inl, inr, arith}
+use Rattle.std.proofs.Common.{◌≡◌, ℕ, zero, suc, ◌+◌, ◌/◌, ◌<◌, ◌≤◌, min, Bool, true, false, cond, not, ◌&&◌, eqb, ltb, leb, ◌⊎◌, List, [], ◌∷◌, length, get_or, set, Some, None, Ok, Err, Option, Result, sym, refl, ap, ◌∙◌, subst, inl, inr, arith}
 use Rattle.std.proofs.lemmas.Bool.Decides.{nat_tests}
 use Rattle.std.proofs.lemmas.List.{get_or-set_same, set-get_or}
 use Rattle.cells.specs.declared.kinds.Kind.{Kind}
-use Rattle.cells.specs.Ports.{Node, node_at, place_of, port_at, inside, link, end, linked}
-use Rattle.cells.proofs.Nodes.{linked_ends, unlinked_second}
+use Rattle.cells.specs.declared.kinds.Port.{Port}
+use Rattle.cells.specs.declared.kinds.Port.TheVariants.{First, Second, Third}
+use Rattle.cells.specs.Ports.{Node, node_at, kind_of, ShowsNode, KindNamed, place_of, port_at, inside, link, end, linked}
+use Rattle.cells.proofs.Nodes.{linked_first, unlinked_first}
+use Rattle.std.specs.Option.{MatchOption, ok_or, option_eq, unwrap_or}
+use Rattle.std.specs.Bool.{then_some}
+use Rattle.std.specs.Result.{is_ok}
+use Rattle.cells.specs.declared.kinds.Cell.{Cell}
+use Rattle.cells.specs.declared.kinds.UnknownKind.{UnknownKind}
 use Rattle.machine.specs.declared.reasons.Reason.{Reason}
 use Rattle.machine.specs.declared.reasons.Reason.TheVariants as reason
 use Rattle.machine.specs.Steps.{to, ends, then}
@@ -22,7 +29,7 @@ use Rattle.token.proofs.Tests.{both, and_true, eqb_same, eqb_yes, eqb_no, leb_ye
 use Rattle.token.proofs.Steps.{to_row, on_yes}
 use Rattle.token_machine.specs.declared.tokens.Token.{Token}
 use Rattle.token_machine.specs.declared.passages.Passage.{Passage}
-use Rattle.token_machine.specs.Passing.{shelves_after, passed, tops_of, LowTops, Passes, Roomy, Moved}
+use Rattle.token_machine.specs.Passing.{shelves_after, passed, tops_of, LowTops, Passes, Found, WayOut, Roomy, Moved}
 use Rattle.token_machine.specs.Tokens.{stacks_of, rooms_of}
 use Rattle.token_machine.proofs.Deciding.{low_data, low_iter, Agrees, TooLarge, Ended}
 
@@ -149,11 +156,33 @@ pub no_kind : (s : State) → (node_at s.nodes (node_to s)).kind ≡ None → th
 unfolding row_for
 no_kind s e = no_row_at s None e refl
 
+pub no_cell : (s : State) (o : Option Cell) (w : Reason) → ShowsNode s.nodes s.to o → Err w ≡ ok_or o reason.NoRow → Found s (Err w)
+no_cell s None w h e = let n : w ≡ reason.NoRow = cc in no_kind s (ap (λ n. n.kind) h) ∙ ap ends (sym n)
+no_cell s (Some x) w h e = absurd (cc)
+
+unnamed : (n : ℕ) (t : Result Kind UnknownKind) → KindNamed n t → false ≡ is_ok t → kind_of n ≡ None
+unnamed n (Ok k) h e = false_true e
+unnamed n (Err u) h e = h.0
+
+-- the kind of the node that a cell shows
+shown_kind : (s : State) (o : Option Cell) (x : Cell) → ShowsNode s.nodes s.to o → o ≡ Some x → (node_at s.nodes (node_to s)).kind ≡ kind_of x.kind
+shown_kind s o x h e = ap (λ n. n.kind) (subst (ShowsNode s.nodes s.to) e h)
+
+pub no_name : (s : State) (o : Option Cell) (x : Cell) (t : Result Kind UnknownKind) → ShowsNode s.nodes s.to o → o ≡ Some x → KindNamed x.kind t → false ≡ is_ok t → then (row_at s) (leaves s) ≡ ends reason.NoRow
+no_name s o x t h e n f = no_kind s (shown_kind s o x h e ∙ unnamed x.kind t n f)
+
 -- a node of a kind and a value, at which the token arrives
 pub record Arrives (s : State) (k : Kind) (v : ℕ) : Type 0 where
   pub inner : node_to s ≡ 0 → ⊥
   pub kind : (node_at s.nodes (node_to s)).kind ≡ Some k
   pub value : v ≡ value_to s
+
+pub arrives : (s : State) (o : Option Cell) (x : Cell) (t : Result Kind UnknownKind) (k : Kind) → (node_to s ≡ 0 → ⊥) → ShowsNode s.nodes s.to o → o ≡ Some x → KindNamed x.kind t → t ≡ Ok k → Arrives s k x.value
+arrives s o x t k i h e n f = record {
+  inner = i;
+  kind = shown_kind s o x h e ∙ subst (KindNamed x.kind) f n;
+  value = sym (ap (λ n. n.value) (subst (ShowsNode s.nodes s.to) e h));
+}
 
 at_node_lem : (s : State) (k : Kind) (v : ℕ) (r : Row) → Arrives s k v → first_row k (place_of s.to) v s.stacks table ≡ Some r → row_at s ≡ to r
 at_node_lem s k v r a h = to_row s r (record {
@@ -284,22 +313,22 @@ end_is ns p x h = by (inside ns p) h
     by true e = ap (λ o. elim o [ Some y ↦ y | None ↦ x ]) e
     by false e = none_some x (sym e)
 
--- where the link's own end is the port, or another, or there is none
-module _ (ns : List Node) (p x : ℕ) (first : Some x ≡ end ns p) where
-  meets : (y : ℕ) → Some y ≡ end ns x → linked ns p (link ns p) ≡ eqb y p
-  meets y h =
-      ap (linked ns p) (sym (end_is ns p x first))
-      ∙ linked_ends ns p x x y first h
-      ∙ ap (λ b. b && eqb y p) (eqb_same x)
+-- no port's number is past the largest
+pub port_is : (n k : ℕ) (p : Port) → k < 4294967296 → n ≡ min (port_at k p) 18446744073709551615 → n ≡ port_at k p
+port_is n k First h e = omega arith
+port_is n k Second h e = omega arith
+port_is n k Third h e = omega arith
 
-  pub way_out : (y : ℕ) → Some y ≡ end ns x → y ≡ p → linked ns p (link ns p) ≡ true
-  way_out y h e = meets y h ∙ eqb_yes y p e
+-- a port is linked exactly if its link's own end is the port
+pub way_is : (ns : List Node) (p x : ℕ) → Some x ≡ end ns p → option_eq eqb (end ns x) (Some p) ≡ linked ns p (link ns p)
+way_is ns p x h =
+    linked_first ns p x (ap (λ o. option_eq eqb o (Some x)) (sym h) ∙ eqb_same x)
+    ∙ ap (linked ns p) (end_is ns p x h)
 
-  pub no_way_out : (y : ℕ) → Some y ≡ end ns x → (y ≡ p → ⊥) → linked ns p (link ns p) ≡ false
-  no_way_out y h n = meets y h ∙ eqb_no y p n
-
-  pub no_end_out : None ≡ end ns x → linked ns p (link ns p) ≡ false
-  no_end_out h = ap (linked ns p) (sym (end_is ns p x first)) ∙ sym (unlinked_second ns p x h)
+-- a port that lies in no cell
+pub no_way : (ns : List Node) (p : ℕ) (o : Option ℕ) (w : Reason) → o ≡ end ns p → Err w ≡ ok_or o reason.Unlinked → WayOut ns p (Err w)
+no_way ns p None w h e = (cc, sym (unlinked_first ns p (link ns p) (ap (λ o. option_eq eqb o (Some (link ns p))) (sym h))))
+no_way ns p (Some x) w h e = cc
 
 -- with no cell for port 0 there is none at all
 no_end : (ns : List Node) (p : ℕ) (b : Bool) → None ≡ cond b (Some (link ns p)) None → b ≡ false
@@ -319,5 +348,14 @@ no_cells ns h =
     never true n = grind (arith, nat_tests)
     never false n = refl
 
-pub no_root : (ns : List Node) → None ≡ end ns 0 → 0 ≡ entrance ns
+no_root : (ns : List Node) → None ≡ end ns 0 → 0 ≡ entrance ns
 no_root ns h = no_cells ns (no_end ns 0 (inside ns 0) h)
+
+-- the root's link where it lies in a cell, and else port 0
+pub enters : (ns : List Node) (o r : Option ℕ) → o ≡ end ns 0 → MatchOption o (r ≡ None) (λ x. r ≡ then_some (inside ns x) x) → unwrap_or r 0 ≡ entrance ns
+enters ns None r h e = ap (λ q. unwrap_or q 0) e ∙ no_root ns h
+enters ns (Some x) r h e = ap (λ q. unwrap_or q 0) e ∙ by (inside ns x) ∙ ap (λ y. cond (inside ns y) y 0) (end_is ns 0 x h)
+  where
+    by : (b : Bool) → unwrap_or (then_some b x) 0 ≡ cond b x 0
+    by true = refl
+    by false = refl

@@ -1,7 +1,8 @@
 // The table of rows as a step goes through it: by the node's kind, the port of arrival and the tops of the stacks.
 ghost use Rattle.std.specs.Prelude.{◌≡◌};
+ghost use Rattle.stack.specs.declared.edits.Edit.TheVariants.{Keep};
 ghost use Rattle.token.specs.Table.{pair_on, count_of, kept_of};
-ghost use Rattle.token_machine.specs.Passages.{on_letters, on_iters, on_datas, one_more, at_number, at_successor, at_multiplexer, at_iterator, at_counter, at_transfer};
+ghost use Rattle.token_machine.specs.Passages.{passing, one_more, at_number, at_successor, at_multiplexer, at_iterator, at_counter, at_transfer};
 
 use cells::Port;
 use machine::Reason;
@@ -21,39 +22,18 @@ pub(crate) struct Passage {
     pub(crate) exit: Port,
 }
 
-fn on_letters(letters: Edit<Letter>, exit: Port) -> Passage
-    ensures { result ≡ on_letters letters exit }
-{
-    Passage {
-        letters,
-        iters: Edit::Keep,
-        datas: Edit::Keep,
-        shelf: Edit::Keep,
-        exit,
-    }
-}
-
-fn on_iters(iters: Edit<IterCell>, exit: Port) -> Passage
-    ensures { result ≡ on_iters iters exit }
-{
-    Passage {
-        letters: Edit::Keep,
-        iters,
-        datas: Edit::Keep,
-        shelf: Edit::Keep,
-        exit,
-    }
-}
-
-fn on_datas(datas: Edit<DataCell>, exit: Port) -> Passage
-    ensures { result ≡ on_datas datas exit }
-{
-    Passage {
-        letters: Edit::Keep,
-        iters: Edit::Keep,
-        datas,
-        shelf: Edit::Keep,
-        exit,
+impl Passage {
+    // Keeps every stack, and leaves by this port.
+    fn by(exit: Port) -> Passage
+        ensures { result ≡ passing Keep Keep Keep Keep exit }
+    {
+        Passage {
+            letters: Edit::Keep,
+            iters: Edit::Keep,
+            datas: Edit::Keep,
+            shelf: Edit::Keep,
+            exit,
+        }
     }
 }
 
@@ -61,11 +41,7 @@ fn on_datas(datas: Edit<DataCell>, exit: Port) -> Passage
 fn one_more(a: u32) -> Result<u32, Reason>
     ensures { result ≡ one_more a }
 {
-    if a < u32::MAX {
-        Ok(a + 1)
-    } else {
-        Err(Reason::Overflow)
-    }
+    a.checked_add(1).ok_or(Reason::Overflow)
 }
 
 pub(crate) fn at_number(value: u32, port: Port, top: Option<DataCell>) -> Result<Passage, Reason>
@@ -73,10 +49,16 @@ pub(crate) fn at_number(value: u32, port: Port, top: Option<DataCell>) -> Result
 {
     match (port, top) {
         (Port::First, Some(DataCell::Question)) => {
-            Ok(on_datas(Edit::Replace(DataCell::Number(value)), Port::First))
+            Ok(Passage {
+                datas: Edit::Replace(DataCell::Number(value)),
+                ..Passage::by(Port::First)
+            })
         }
         (Port::First, Some(DataCell::Number(a))) if a == value => {
-            Ok(on_datas(Edit::Replace(DataCell::Question), Port::First))
+            Ok(Passage {
+                datas: Edit::Replace(DataCell::Question),
+                ..Passage::by(Port::First)
+            })
         }
         _ => Err(Reason::NoRow),
     }
@@ -91,20 +73,29 @@ pub(crate) fn at_successor(
 {
     match (port, top, under) {
         (Port::Second, Some(DataCell::Question), _) => {
-            Ok(on_datas(Edit::Push(DataCell::Question), Port::First))
+            Ok(Passage {
+                datas: Edit::Push(DataCell::Question),
+                ..Passage::by(Port::First)
+            })
         }
         (Port::Second, Some(DataCell::Number(a)), _) if a > 0 => {
-            Ok(on_datas(
-                Edit::Split(DataCell::Question, DataCell::Number(a - 1)),
-                Port::First,
-            ))
+            Ok(Passage {
+                datas: Edit::Split(DataCell::Question, DataCell::Number(a - 1)),
+                ..Passage::by(Port::First)
+            })
         }
         (Port::First, Some(DataCell::Question), Some(DataCell::Question)) => {
-            Ok(on_datas(Edit::Pop, Port::Second))
+            Ok(Passage {
+                datas: Edit::Pop,
+                ..Passage::by(Port::Second)
+            })
         }
         (Port::First, Some(DataCell::Number(a)), Some(DataCell::Question)) => {
             let sum = one_more(a)?;
-            Ok(on_datas(Edit::Join(DataCell::Number(sum)), Port::Second))
+            Ok(Passage {
+                datas: Edit::Join(DataCell::Number(sum)),
+                ..Passage::by(Port::Second)
+            })
         }
         _ => Err(Reason::NoRow),
     }
@@ -114,10 +105,22 @@ pub(crate) fn at_multiplexer(port: Port, top: Option<Letter>) -> Result<Passage,
     ensures { result ≡ at_multiplexer port top }
 {
     match (port, top) {
-        (Port::Second, _) => Ok(on_letters(Edit::Push(Letter::Left), Port::First)),
-        (Port::Third, _) => Ok(on_letters(Edit::Push(Letter::Right), Port::First)),
-        (Port::First, Some(Letter::Left)) => Ok(on_letters(Edit::Pop, Port::Second)),
-        (Port::First, Some(Letter::Right)) => Ok(on_letters(Edit::Pop, Port::Third)),
+        (Port::Second, _) => Ok(Passage {
+            letters: Edit::Push(Letter::Left),
+            ..Passage::by(Port::First)
+        }),
+        (Port::Third, _) => Ok(Passage {
+            letters: Edit::Push(Letter::Right),
+            ..Passage::by(Port::First)
+        }),
+        (Port::First, Some(Letter::Left)) => Ok(Passage {
+            letters: Edit::Pop,
+            ..Passage::by(Port::Second)
+        }),
+        (Port::First, Some(Letter::Right)) => Ok(Passage {
+            letters: Edit::Pop,
+            ..Passage::by(Port::Third)
+        }),
         (Port::First, None) => Err(Reason::NoRow),
     }
 }
@@ -130,21 +133,23 @@ pub(crate) fn at_iterator(
     ensures { result ≡ at_iterator port iter top }
 {
     match (port, iter, top) {
-        (Port::Second, _, _) => Ok(on_datas(Edit::Push(DataCell::Question), Port::First)),
-        (Port::First, _, Some(DataCell::Question)) => Ok(on_datas(Edit::Pop, Port::Second)),
+        (Port::Second, _, _) => Ok(Passage {
+            datas: Edit::Push(DataCell::Question),
+            ..Passage::by(Port::First)
+        }),
+        (Port::First, _, Some(DataCell::Question)) => Ok(Passage {
+            datas: Edit::Pop,
+            ..Passage::by(Port::Second)
+        }),
         (Port::First, _, Some(DataCell::Number(a))) => Ok(Passage {
-            letters: Edit::Keep,
             iters: Edit::Push(IterCell::Number(a)),
             datas: Edit::Pop,
-            shelf: Edit::Keep,
-            exit: Port::Third,
+            ..Passage::by(Port::Third)
         }),
         (Port::Third, Some(IterCell::Number(a)), _) => Ok(Passage {
-            letters: Edit::Keep,
             iters: Edit::Pop,
             datas: Edit::Push(DataCell::Number(a)),
-            shelf: Edit::Keep,
-            exit: Port::First,
+            ..Passage::by(Port::First)
         }),
         _ => Err(Reason::NoRow),
     }
@@ -175,19 +180,31 @@ pub(crate) fn at_counter(side: Side, port: Port, top: Option<IterCell>) -> Resul
 {
     match (port, top) {
         (Port::Second, Some(IterCell::Number(kept))) => {
-            Ok(on_iters(Edit::Replace(pair_on(side, 0, kept)), Port::First))
+            Ok(Passage {
+                iters: Edit::Replace(pair_on(side, 0, kept)),
+                ..Passage::by(Port::First)
+            })
         }
         (Port::Third, Some(IterCell::Pair(a, b))) => {
             let (count, kept) = parts_on(side, a, b);
             let sum = one_more(count)?;
-            Ok(on_iters(Edit::Replace(pair_on(side, sum, kept)), Port::First))
+            Ok(Passage {
+                iters: Edit::Replace(pair_on(side, sum, kept)),
+                ..Passage::by(Port::First)
+            })
         }
         (Port::First, Some(IterCell::Pair(a, b))) => {
             let (count, kept) = parts_on(side, a, b);
             if count == 0 {
-                Ok(on_iters(Edit::Replace(IterCell::Number(kept)), Port::Second))
+                Ok(Passage {
+                    iters: Edit::Replace(IterCell::Number(kept)),
+                    ..Passage::by(Port::Second)
+                })
             } else {
-                Ok(on_iters(Edit::Replace(pair_on(side, count - 1, kept)), Port::Third))
+                Ok(Passage {
+                    iters: Edit::Replace(pair_on(side, count - 1, kept)),
+                    ..Passage::by(Port::Third)
+                })
             }
         }
         _ => Err(Reason::NoRow),
@@ -202,23 +219,19 @@ pub(crate) fn at_transfer(
 ) -> Result<Passage, Reason>
     ensures { result ≡ at_transfer value port top shelved }
 {
-    if value == 0 || value > SHELVES {
+    if !(1..=SHELVES).contains(&value) {
         return Err(Reason::NoRow);
     }
     match (port, top, shelved) {
         (Port::Second, Some(cell), _) => Ok(Passage {
-            letters: Edit::Keep,
             iters: Edit::Pop,
-            datas: Edit::Keep,
             shelf: Edit::Push(cell),
-            exit: Port::First,
+            ..Passage::by(Port::First)
         }),
         (Port::First, _, Some(cell)) => Ok(Passage {
-            letters: Edit::Keep,
             iters: Edit::Push(cell),
-            datas: Edit::Keep,
             shelf: Edit::Pop,
-            exit: Port::Second,
+            ..Passage::by(Port::Second)
         }),
         _ => Err(Reason::NoRow),
     }

@@ -53,9 +53,7 @@ impl<'a> Machine for Token<'a> {
     }
 
     fn turn(&mut self) {
-        let from = self.from;
-        self.from = self.to;
-        self.to = from;
+        std::mem::swap(&mut self.from, &mut self.to);
     }
 }
 
@@ -123,12 +121,8 @@ impl<'a> Token<'a> {
         if self.to / 3 == 0 {
             return Err(Reason::NoRow);
         }
-        let Some(cell) = cell_of(self.cells, self.to) else {
-            return Err(Reason::NoRow);
-        };
-        let Some(kind) = Kind::of(cell.kind) else {
-            return Err(Reason::NoRow);
-        };
+        let cell = cell_of(self.cells, self.to).ok_or(Reason::NoRow)?;
+        let kind = Kind::try_from(cell.kind).map_err(|_| Reason::NoRow)?;
         self.tops_fit(cell.value);
         let passage = self.pass_through(kind, cell.value, Port::of(self.to))?;
         Ok((cell.value, passage))
@@ -149,14 +143,9 @@ impl<'a> Token<'a> {
         requires { self.now.to < 4294967295 }
         ensures { WayOut (nodes_of self.now.cells.now) (port_at (self.now.to / 3) place) result }
     {
-        let exit = port_at(self.to / 3, place);
-        let Some(link) = link_of(self.cells, exit) else {
-            return Err(Reason::Unlinked);
-        };
-        let Some(back) = link_of(self.cells, link) else {
-            return Err(Reason::Unlinked);
-        };
-        if back == exit {
+        let exit = place.at((self.to / 3) as usize) as u32;
+        let link = link_of(self.cells, exit).ok_or(Reason::Unlinked)?;
+        if link_of(self.cells, link) == Some(exit) {
             Ok((exit, link))
         } else {
             Err(Reason::Unlinked)
@@ -175,24 +164,11 @@ impl<'a> Token<'a> {
     }
 }
 
-// The number of a node's port.
-fn port_at(node: u32, place: Port) -> u32
-    requires { node < 1431655765 }
-    ensures { result ≡ port_at node place }
-{
-    match place {
-        Port::First => 3 * node,
-        Port::Second => 3 * node + 1,
-        Port::Third => 3 * node + 2,
-    }
-}
-
 // The root's link, or port 0 if that link lies in no cell.
 fn entrance(cells: &[Cell]) -> u32
     ensures { result ≡ entrance-of (nodes_of cells.now) }
 {
-    let Some(link) = link_of(cells, 0) else {
-        return 0;
-    };
-    if is_inside(cells, link) { link } else { 0 }
+    link_of(cells, 0)
+        .filter(|link| is_inside(cells, *link))
+        .unwrap_or(0)
 }

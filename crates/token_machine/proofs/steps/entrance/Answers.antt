@@ -1,6 +1,7 @@
+use Rattle.std.proofs.Common.{◌∙◌, rules, tests}
 use Rattle.cells.specs.Ports.{nodes_of}
-use Rattle.token_machine.proofs.Stepping.{no_root}
+use Rattle.token_machine.proofs.Stepping.{enters}
 use Rattle.token_machine.proofs.steps.entrance.Goals as goal
 
-pub returns-in_default : goal.returns-in_default
-returns-in_default c = no_root (nodes_of c.args.cells.now) c.in_default.ensures
+pub returns : goal.returns
+returns c = c.unwrap_or.ensures ∙ enters (nodes_of c.args.cells.now) c.link_of.result c.filter.result c.link_of.ensures (search (rules, tests))

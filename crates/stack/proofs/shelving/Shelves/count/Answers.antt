@@ -1,17 +1,18 @@
-use Rattle.std.proofs.Common.{◌≤◌, ◌∙◌, arith, rules}
-use Rattle.stack.proofs.Shelved.{shelf_short, cells_held_next, cells_held_all}
+use Rattle.std.proofs.Common.{◌≡◌, ◌∙◌, length, sym, arith, rules}
+use Rattle.std.proofs.lemmas.Iterator.{YieldsList-from_slice, YieldsList-from_map}
+use Rattle.std.proofs.lemmas.Iterator.Consumers.{sum_by_from_yields_List, fits_by_from_yields_list}
+use Rattle.stack.proofs.Shelved.{heights_sum, cells_held_heights}
 use Rattle.stack.proofs.shelving.Shelves.count.Goals as goal
 
-pub overflow_add-n : goal.overflow_add-n
-overflow_add-n g c =
-    let small : c.height-n.result ≤ 64 = omega (arith, c.height-n.ensures, shelf_short c.args.self.now c.loop-k.k) in
-    search rules
-
-pub loop-k-preserved : goal.loop-k-preserved
-loop-k-preserved g c = (
-  cells_held_next c.args.self.now c.loop-k.k c.loop-k.n c.height-n.result (omega arith) c.loop-k.invariant.0 c.height-n.ensures,
-  omega (arith, c.height-n.ensures, shelf_short c.args.self.now c.loop-k.k),
-)
+pub sum-requires-clause-fits : goal.sum-requires-clause-fits
+sum-requires-clause-fits g c =
+    let s = c.args.self.now in
+    let hl : length s.heights ≡ 64 = search rules in
+    fits_by_from_yields_list (λ x. x) s.heights c.map.result _ (YieldsList-from_map _ (λ x. x) (YieldsList-from_slice s.heights cc) c.map.ensures.closure (λ x r q k. search rules)) (omega (arith, heights_sum s hl))
 
 pub returns : goal.returns
-returns g c = c.loop-k.invariant.0 ∙ cells_held_all c.args.self.now c.loop-k.k (omega arith)
+returns g c =
+    let s = c.args.self.now in
+    let hl : length s.heights ≡ 64 = search rules in
+    sum_by_from_yields_List (λ x. x) s.heights c.map.result _ c.sum.ensures.ran (YieldsList-from_map _ (λ x. x) (YieldsList-from_slice s.heights cc) c.map.ensures.closure (λ x r q k. search rules))
+    ∙ sym (cells_held_heights s hl)

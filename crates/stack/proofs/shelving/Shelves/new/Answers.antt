@@ -1,8 +1,10 @@
-use Rattle.std.proofs.Common.{refl}
-use Rattle.stack.specs.Shelving.{shelves, complete}
-use Rattle.stack.proofs.Shelved.{shelved_none}
+use Rattle.stack.specs.Shelving.{shelves}
+use Rattle.stack.proofs.Shelved.{none-fits, shelved_none}
 use Rattle.stack.proofs.shelving.Shelves.new.Goals as goal
 
-pub returns : goal.returns
-unfolding shelves complete
-returns g c = record { empty = shelved_none c.args.cells.now; complete = refl }
+pub invariant_of-result : goal.invariant_of-result
+invariant_of-result g c = record { fits = none-fits c.args.cells.now }
+
+pub returns-clause-empty : goal.returns-clause-empty
+unfolding shelves
+returns-clause-empty g c = shelved_none c.args.cells.now

@@ -1,32 +1,29 @@
-use Rattle.std.proofs.Common.{sym, refl, ap, ◌∙◌}
-use Rattle.cells.specs.Ports.{nodes_of, end}
-use Rattle.cells.proofs.Nodes.{unlinked_first}
-use Rattle.token_machine.proofs.Stepping.{end_is, way_out, no_way_out, no_end_out}
+use Rattle.std.proofs.Common.{◌≡◌, ◌/◌, eqb, Some, sym, refl, ap, ◌∙◌, arith}
+use Rattle.std.specs.Option.{option_eq}
+use Rattle.std.proofs.lemmas.Result.{err_from_is_err_and}
+use Rattle.cells.specs.Ports.{nodes_of, port_at, end}
+use Rattle.token_machine.proofs.Stepping.{port_is, end_is, way_is, no_way}
 use Rattle.token_machine.proofs.tokens.Token.find_exit.Goals as goal
 
-pub returns-in_default : goal.returns-in_default
-returns-in_default c =
+pub returns-in_err-link : goal.returns-in_err-link
+returns-in_err-link c =
     let ns = nodes_of c.args.self.now.cells.now in
-    (refl, sym (unlinked_first ns _ _ (c.in_default.ensures ∙ ap (end ns) c.port_at-exit.ensures)))
+    let e = port_is c.at-exit.result (c.args.self.now.to / 3) c.args.place (omega arith) c.at-exit.ensures in
+    let p = err_from_is_err_and c.from_residual.result c.from_residual.ensures.1 in
+    rw (p.1, p.2) (no_way ns _ c.link_of.result _ (c.link_of.ensures ∙ ap (end ns) e) c.in_err-link.ensures.value)
 
-pub returns-in_default-link_of : goal.returns-in_default-link_of
-returns-in_default-link_of c =
+pub returns-then-eq : goal.returns-then-eq
+returns-then-eq c =
     let ns = nodes_of c.args.self.now.cells.now in
-    (refl, no_end_out ns _ c.in-Some.link (c.in-Some.ensures ∙ ap (end ns) c.port_at-exit.ensures) c.in_default-link_of.ensures)
+    let e = port_is c.at-exit.result (c.args.self.now.to / 3) c.args.place (omega arith) c.at-exit.ensures in
+    let first = sym c.in_ok-link.ensures.ok_part ∙ c.link_of.ensures ∙ ap (end ns) e in
+    let back : c.eq.result ≡ option_eq eqb (end ns c.in_ok-link.link) (Some (port_at (c.args.self.now.to / 3) c.args.place)) = cc in
+    (e, end_is ns _ _ first, sym (way_is ns _ _ first) ∙ sym back ∙ c.if-eq.true)
 
-pub returns-then-back-exit : goal.returns-then-back-exit
-returns-then-back-exit c =
+pub returns-else-eq : goal.returns-else-eq
+returns-else-eq c =
     let ns = nodes_of c.args.self.now.cells.now in
-    let first = c.in-Some.ensures ∙ ap (end ns) c.port_at-exit.ensures in (
-      c.port_at-exit.ensures,
-      end_is ns _ _ first,
-      way_out ns _ c.in-Some.link first c.in-Some-link_of.back c.in-Some-link_of.ensures (c.if-back-exit.true ∙ c.port_at-exit.ensures),
-    )
-
-pub returns-else-back-exit : goal.returns-else-back-exit
-returns-else-back-exit c =
-    let ns = nodes_of c.args.self.now.cells.now in
-    let first = c.in-Some.ensures ∙ ap (end ns) c.port_at-exit.ensures in (
-      refl,
-      no_way_out ns _ c.in-Some.link first c.in-Some-link_of.back c.in-Some-link_of.ensures (λ e. c.if-back-exit.false (e ∙ sym c.port_at-exit.ensures)),
-    )
+    let e = port_is c.at-exit.result (c.args.self.now.to / 3) c.args.place (omega arith) c.at-exit.ensures in
+    let first = sym c.in_ok-link.ensures.ok_part ∙ c.link_of.ensures ∙ ap (end ns) e in
+    let back : c.eq.result ≡ option_eq eqb (end ns c.in_ok-link.link) (Some (port_at (c.args.self.now.to / 3) c.args.place)) = cc in
+    (refl, sym (way_is ns _ _ first) ∙ sym back ∙ c.if-eq.false)
