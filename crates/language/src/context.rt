@@ -20,7 +20,9 @@ pub(crate) struct Context {
 }
 
 impl Context {
-    pub(crate) fn new(heap: Global) -> Result<Context, AllocError> {
+    pub(crate) fn new(heap: Global) -> Result<Context, AllocError>
+        ensures { IfOk result (λ context. context.hypotheses.items ≡ []) }
+    {
         let hypotheses = Vec::with_capacity(heap, HYPOTHESES)?;
         Ok(Context { hypotheses })
     }
