@@ -22,7 +22,7 @@ use Rattle.network.proofs.Uses.{distinct, linear_succ, linear_lam, linear_app, l
 use Rattle.network.proofs.Laid.{own_among}
 use Rattle.network.proofs.Gathered.{below_long}
 use Rattle.network.proofs.Crossed.{start_put}
-use Rattle.network.proofs.Moved.{Moved, wired-moved, passed-moved, crossed_moved, moved-again, moved-both, rebound, unmoved, still_started}
+use Rattle.network.proofs.Moved.{wired-moved, passed-moved, crossed_moved, moved-again, moved-both, rebound, unmoved, still_started}
 
 -- wires written one list after another
 then : (v w : List Wire) (a b c : List Cell) → b ≡ wired_cells v a → c ≡ wired_cells w b → c ≡ wired_cells (v ++ w) a

@@ -139,7 +139,14 @@ impl Wiring {
 
     // Wires part `i`, whose nodes are numbered from `k` on and whose root goes to the port `root`, and gives the number after its nodes.
     #[cycle(wire_wire_inside)]
-    pub(crate) fn wire(&mut self, parts: &[Part], i: usize, k: usize, root: usize, cells: &mut [Cell]) -> usize
+    pub(crate) fn wire(
+        &mut self,
+        parts: &[Part],
+        i: usize,
+        k: usize,
+        root: usize,
+        cells: &mut [Cell],
+    ) -> usize
         requires { (t : Term) × Wirable parts.now i k root self.old.starts.items (length cells.old) t }
         ensures { (t : Term) → Wirable parts.now i k root self.old.starts.items (length cells.old) t → Wired t k root result self.old.starts.items self.new.starts.items cells.old cells.new }
     {
@@ -187,7 +194,14 @@ impl Wiring {
 
     // Wires a step or a base inside its Transfer nodes, and gives the number after these.
     #[cycle(wire_wire_inside)]
-    fn wire_inside(&mut self, parts: &[Part], i: usize, k: usize, root: usize, cells: &mut [Cell]) -> usize
+    fn wire_inside(
+        &mut self,
+        parts: &[Part],
+        i: usize,
+        k: usize,
+        root: usize,
+        cells: &mut [Cell],
+    ) -> usize
         requires { (t : Term) × Enclosed parts.now i k root self.old.starts.items (length cells.old) t }
         ensures { (t : Term) → Enclosed parts.now i k root self.old.starts.items (length cells.old) t → Passed t k root result self.old.starts.items self.new.starts.items cells.old cells.new }
     {

@@ -1,7 +1,7 @@
-use Rattle.std.proofs.Common.{◌+◌, ◌≤◌, length, get_or, sym, refl, ap, ◌∙◌, subst, arith}
+use Rattle.std.proofs.Common.{◌+◌, ◌≤◌, length, get_or, sym, refl, ap, ◌∙◌, arith}
 use Rattle.std.proofs.lemmas.Result.{err_from_is_err_and}
 use Rattle.calculus.specs.Terms.{nodes}
-use Rattle.network.specs.Parts.{no_part, Holds}
+use Rattle.network.specs.Parts.{no_part}
 use Rattle.network.specs.Building.{term_of, rejected, few_cells}
 use Rattle.network.proofs.Laid.{nodes_are}
 use Rattle.network.proofs.Building.{few_nodes, drawable, stored, trusted}

@@ -2,9 +2,6 @@ use Rattle.std.proofs.Common.{arith}
 use Rattle.network.proofs.Building.{laid_all, layable_all, wirable_all, drawn_all}
 use Rattle.network.proofs.build.Builder.draw.Goals as goal
 
-pub lay-requires : goal.lay-requires
-lay-requires c = (c.requires.0, layable_all c.requires.1 c.deref.ensures.value (omega arith))
-
 pub wire-requires : goal.wire-requires
 wire-requires c = (c.requires.0, wirable_all c.requires.1 c.deref-2.ensures.value (omega arith) (omega arith))
 

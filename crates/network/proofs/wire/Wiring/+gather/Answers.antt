@@ -1,7 +1,7 @@
-use Rattle.std.proofs.Common.{◌+◌, ◌≤◌, ◌++◌, None, length, set, sym, refl, ap, ◌∙◌, append-nil, arith, length-set}
+use Rattle.std.proofs.Common.{◌++◌, None, length, set, sym, ap, ◌∙◌, append-nil, arith, length-set}
 use Rattle.std.specs.Option.{is_some}
 use Rattle.std.proofs.lemmas.List.{get_or_read}
-use Rattle.calculus.specs.Terms.{free, without, subterms}
+use Rattle.calculus.specs.Terms.{free, without}
 use Rattle.network.specs.Wiring.{in_force}
 use Rattle.network.proofs.Gathered.{used, unused, one, bound, two, split_of, three, restored, listed-both, listed_bound, listed-length}
 use Rattle.network.proofs.wire.Wiring.+gather.Goals as goal
