@@ -77,7 +77,7 @@ section("2", "groups of functions of one shape", [" ~ ".join(f"{g.place} {g.name
 section("3", "loops that count by hand, or go over a range of numbers", matching(r"^\s*while |^\s*for \w+ in [^{]*\.\.|\.enumerate\(\)|^\s*\w+ [+-]= 1;"))
 
 # 4
-section("4", "equality, order, copying, conversion and printing by hand", matching(r"fn (of|number|same|before|sooner|copy|turn)\b|fn \w+_(line|text)\(|fn (write|show|tell)\w*\b|impl(<.*>)? Text for|\bas u(8|32|64)\b"))
+section("4", "equality, order, copying, conversion and printing by hand", matching(r"fn (of|number|same|before|sooner|copy|turn)\b|fn \w+_(line|text)\(|fn (write|show|tell)_?\w*[(<](?!&self, writer)|impl(<.*>)? Text for|\bas u(8|32|64)\b"))
 
 # 5
 held = collections.defaultdict(set)
@@ -97,7 +97,17 @@ longest = [(k, v) for k, v in most.items() if not any(k != o and k[0] == o[0] an
 section("5b", "parameters that stand together in three or more functions of a crate", [f"{len(v)}x {', '.join(k[1])}: {', '.join(g.place + ' ' + g.name for g in v)}" for k, v in longest])
 
 # 6
-section("6", "buffers with a length beside, arrays of fixed length, tables of vectors, cells named by index", matching(r"^\s*(pub(\([a-z]+\))? )?\w+: (&'a (mut )?\[|\[\w+; |Vec<|usize,)|^\s*(Arrow|Product|Successor|Application|Pair)\(usize"))
+tables = []
+for f in files:
+    text = open(f).read()
+    for m in re.finditer(r"(?m)^(?:pub(?:\([a-z]+\))? )?(struct|enum) (\w+)[^{;]*\{(.*?)^\}", text, re.S):
+        body = re.sub(r"//.*|ghost .*", "", m.group(3))
+        held = re.findall(r": (&'a (?:mut )?\[|\[\w+;|Vec<)", body)
+        numbers = re.findall(r": usize|: u\d+", body)
+        parts = re.findall(r"\((?:usize(?:, )?)+\)|^        \w+: usize", body, re.M)
+        if (held and numbers) or len(held) > 1 or (m.group(1) == "enum" and parts):
+            tables.append(f"{f.relative_to(top / 'crates')}:{text.count(chr(10), 0, m.start()) + 1}: {m.group(1)} {m.group(2)}")
+section("6", "types that hold a buffer beside a number, several buffers, or parts by their numbers", tables)
 
 # 7
 section("7", "switches on which step to run, tables of cases, functions handed over", matching(r"match (case|heading|direction|self\.direction|side|number)\b|\bfn\(|Fn(Mut|Once)?\(|\bdyn\b"))

@@ -1,7 +1,8 @@
-use Rattle.std.proofs.Common.{◌≡◌, [], ◌∷◌, ◌+◌, map, take, drop, string_bytes, sym, ap, ◌∙◌, arith, rules, append-nil}
+use Rattle.std.proofs.Common.{◌≡◌, [], ◌∷◌, ◌+◌, map, take, drop, string_bytes, sym, ap, ◌∙◌, arith, refl, rules, append-nil}
 use Rattle.std.proofs.lemmas.List.{take_all}
 use Rattle.walk.specs.Words.{none_yet}
-use Rattle.walk.proofs.Reading.{cut_at, taken_as, led_more, none_wanted, one_wanted}
+use Rattle.std.proofs.lemmas.Result.{err_from_is_err_and}
+use Rattle.walk.proofs.Reading.{taken_as, led_more, refused, none_wanted, one_wanted}
 use Rattle.walk.proofs.plan.read_words.Goals as goal
 
 pub loop-word-init : goal.loop-word-init
@@ -9,24 +10,15 @@ loop-word-init c =
     let b = c.new-plan.ensures in
     (record { calls = b.0; first = b.1.0; waiting = b.1.1.0; begun = b.1.1.1 }, none_yet)
 
-pub returns-then-not-branch : goal.returns-then-not-branch
-returns-then-not-branch c =
+pub returns-in_err-take : goal.returns-in_err-take
+returns-in_err-take c =
+    let p = err_from_is_err_and c.from_residual.result c.from_residual.ensures.1 in
     let i = c.loop-word.word-index in
-    let ws = c.args.words.now in
-    record {
-      start = c.new-plan.result;
-      blank = c.loop-word.invariant.0;
-      before = map string_bytes (take i ws);
-      after = string_bytes c.word-item.result ∷ map string_bytes (drop (i + 1) ws);
-      all = cut_at string_bytes ws i c.word-item.result (omega arith) c.word-item.is;
-      reached = c.loop-word.plan;
-      led = c.loop-word.invariant.1;
-      stops = (c.in_ok-clone.ensures.cases, (c.take.new.self, taken_as c.loop-word.plan c.take.new.self (search rules) c.if-not-branch.true c.in_ok-take.ensures));
-    }
+    rw p.1 (rw p.2 (refused string_bytes c.args.words.now i c.word-item.result c.take.new.self c.in_err-take.field-0.0 (omega arith) c.word-item.is c.as_str.ensures.value c.loop-word.invariant.0 c.loop-word.invariant.1 c.in_err-take.ensures))
 
 pub loop-word-preserved : goal.loop-word-preserved
 loop-word-preserved c =
-    (c.loop-word.invariant.0, led_more string_bytes c.args.words.now c.loop-word.word-index c.word-item.result (omega arith) c.word-item.is c.loop-word.invariant.1 (taken_as c.loop-word.plan c.take.new.self (search rules) c.if-not-branch.false c.in_ok-take.ensures))
+    (c.loop-word.invariant.0, led_more string_bytes c.args.words.now c.loop-word.word-index c.word-item.result (omega arith) c.word-item.is c.loop-word.invariant.1 (taken_as c.loop-word.plan c.take.new.self c.as_str.ensures.value c.in_ok-take.ensures))
 
 pub returns-then-is_some : goal.returns-then-is_some
 returns-then-is_some c =
@@ -41,7 +33,7 @@ returns-then-is_some c =
       all = sym (append-nil (map string_bytes (take i ws)) ∙ ap (map string_bytes) all);
       reached = c.loop-word.plan;
       led = c.loop-word.invariant.1;
-      stops = (one_wanted c.loop-word.plan.waiting c.if-is_some.ensures, c.in_ok-from_str.ensures.ok);
+      stops = (one_wanted c.loop-word.plan.waiting c.if-is_some.ensures, refl);
     }
 
 pub returns : goal.returns
