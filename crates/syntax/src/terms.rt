@@ -1,10 +1,10 @@
 // Terms: the sub-terms that hold them, and the names that they bind and use.
 ghost use Rattle.std.specs.Prelude.{◌+◌, ◌-◌, ◌<◌, ◌≤◌, length};
 ghost use Rattle.syntax.specs.Parse.{term as terms};
-ghost use Rattle.syntax.specs.Steps.{TermRead, BodyRead, Follows, HasRoom, IsCounted, IsPut, begun, signed, signs_in};
+ghost use Rattle.syntax.specs.Steps.{TermRead, BodyRead, Follows, HasRoom, IsCounted, begun, signed, signs_in};
 
 use crate::names::{First, Rest, Start};
-use crate::program::{Shape, Subterm};
+use crate::program::Shape;
 use crate::refusal::{Fault, Refusal};
 use crate::scope::Scope;
 use crate::scoping::Guard;
@@ -18,19 +18,8 @@ const SUBTERMS: usize = 2048;
 // The number of the sub-term that was read, and what is left of the text.
 pub(crate) type Read<'a> = Result<(usize, Rest<'a>), Refusal>;
 
-impl Program {
-    // Puts a sub-term after the others.
-    fn put(&mut self, place: usize, shape: Shape) -> usize
-        requires { length self.old.subterms.items < 2048 }
-        ensures { IsPut place shape self.old self.new result }
-    {
-        let at = self.subterms.len();
-        self.subterms.push_reserved(Subterm { place, shape });
-        at
-    }
-}
-
 // Reads a term inside `depth` others. Whatever it answers, the names in force are again those that were.
+// The program and the names are two borrows here and below, and not one: the guard of a body holds the names alone while the program is written.
 #[cycle(after_first_application_body_function_iterator_let_in_pair_successor_term)]
 pub(crate) fn term<'a>(
     rest: Rest<'a>,

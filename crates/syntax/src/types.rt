@@ -1,7 +1,7 @@
 // Types: the cells that hold them.
-ghost use Rattle.std.specs.Prelude.{◌≡◌, ◌+◌, ◌-◌, ◌<◌, ◌≤◌, length};
+ghost use Rattle.std.specs.Prelude.{◌≡◌, ◌+◌, ◌-◌, ◌≤◌, length};
 ghost use Rattle.syntax.specs.Parse.{type, joint as joints, joined, function_head};
-ghost use Rattle.syntax.specs.Steps.{Gives, IsTypePut, TypeHeld, HeadHeld, cell_of, signs_in};
+ghost use Rattle.syntax.specs.Steps.{Gives, TypeHeld, HeadHeld, cell_of, signs_in};
 
 use crate::names::{Head, Rest};
 use crate::program::TypeCell;
@@ -37,18 +37,6 @@ fn cell(joint: Joint, first: usize, second: usize) -> TypeCell
     match joint {
         Joint::Arrow => TypeCell::Arrow(first, second),
         Joint::Product => TypeCell::Product(first, second),
-    }
-}
-
-impl Program {
-    // Puts a type cell after the others.
-    fn put_type(&mut self, cell: TypeCell) -> usize
-        requires { length self.old.types.items < 4096 }
-        ensures { IsTypePut cell self.old self.new result }
-    {
-        let at = self.types.len();
-        self.types.push_reserved(cell);
-        at
     }
 }
 
