@@ -1,5 +1,7 @@
 ghost use Rattle.std.specs.Prelude.{◌≤◌, length};
 
+use crate::refusal::Refusal;
+
 // What is left of a text, which ends at `end`.
 #[derive(Clone, Copy)]
 pub(crate) struct Rest<'a> {
@@ -7,6 +9,9 @@ pub(crate) struct Rest<'a> {
     pub(crate) end: usize,
     ghost within: { length bytes.now ≤ end },
 }
+
+// What a reader gives: a value, and what is left of the text after it.
+pub(crate) type Read<'a, T> = Result<(T, Rest<'a>), Refusal>;
 
 // A name where it is bound: its letters in the text, with the place of the first.
 #[derive(Clone, Copy)]

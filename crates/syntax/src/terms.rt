@@ -3,9 +3,9 @@ ghost use Rattle.std.specs.Prelude.{◌+◌, ◌-◌, ◌<◌, ◌≤◌, length
 ghost use Rattle.syntax.specs.Parse.{term as terms};
 ghost use Rattle.syntax.specs.Steps.{TermRead, BodyRead, Follows, HasRoom, IsCounted, begun, signed, signs_in};
 
-use crate::names::{First, Rest, Start};
+use crate::names::{First, Read, Rest, Start};
 use crate::program::Shape;
-use crate::refusal::{Fault, Refusal};
+use crate::refusal::Fault;
 use crate::scope::Scope;
 use crate::scoping::Guard;
 use crate::tables::Program;
@@ -15,10 +15,7 @@ const DEPTH: usize = 128;
 
 const SUBTERMS: usize = 2048;
 
-// The number of the sub-term that was read, and what is left of the text.
-pub(crate) type Read<'a> = Result<(usize, Rest<'a>), Refusal>;
-
-// Reads a term inside `depth` others. Whatever it answers, the names in force are again those that were.
+// Reads a term inside `depth` others, and gives the number of its sub-term. Whatever it answers, the names in force are again those that were.
 // The program and the names are two borrows here and below, and not one: the guard of a body holds the names alone while the program is written.
 #[cycle(after_first_application_body_function_iterator_let_in_pair_successor_term)]
 pub(crate) fn term<'a>(
@@ -26,7 +23,7 @@ pub(crate) fn term<'a>(
     depth: usize,
     program: &mut Program,
     scope: &mut Scope,
-) -> Read<'a>
+) -> Read<'a, usize>
     requires { HasRoom depth program.old scope.old }
     ensures { TermRead rest.entry.end depth program.old scope.old program.new scope.new (terms rest.entry.end (128 - depth) (begun depth program.old) (signed program.old) (signs_in rest.entry)) result }
 {
@@ -48,7 +45,7 @@ fn after_first<'a>(
     at: Start,
     program: &mut Program,
     scope: &mut Scope,
-) -> Read<'a>
+) -> Read<'a, usize>
     requires { IsCounted at program.old scope.old }
     ensures { Follows first.entry at rest.entry program.old scope.old program.new scope.new result }
 {
@@ -69,7 +66,12 @@ fn after_first<'a>(
 
 // Reads `t` after `S`.
 #[cycle(after_first_application_body_function_iterator_let_in_pair_successor_term)]
-fn successor<'a>(rest: Rest<'a>, at: Start, program: &mut Program, scope: &mut Scope) -> Read<'a>
+fn successor<'a>(
+    rest: Rest<'a>,
+    at: Start,
+    program: &mut Program,
+    scope: &mut Scope,
+) -> Read<'a, usize>
     requires { IsCounted at program.old scope.old }
     ensures { Follows First.Successor at rest.entry program.old scope.old program.new scope.new result }
 {
@@ -85,7 +87,7 @@ fn body<'a>(
     before: usize,
     program: &mut Program,
     scope: &mut Scope,
-) -> Read<'a>
+) -> Read<'a, usize>
     requires deep { at.depth < 128 }
     requires room { HasRoom (at.depth + 1) program.old scope.old }
     requires own { before ≤ length scope.old.in_force.items }
@@ -99,7 +101,12 @@ fn body<'a>(
 
 // Reads `x:T.t` after a backslash.
 #[cycle(after_first_application_body_function_iterator_let_in_pair_successor_term)]
-fn function<'a>(rest: Rest<'a>, at: Start, program: &mut Program, scope: &mut Scope) -> Read<'a>
+fn function<'a>(
+    rest: Rest<'a>,
+    at: Start,
+    program: &mut Program,
+    scope: &mut Scope,
+) -> Read<'a, usize>
     requires { IsCounted at program.old scope.old }
     ensures { Follows First.Function at rest.entry program.old scope.old program.new scope.new result }
 {
@@ -118,7 +125,12 @@ fn function<'a>(rest: Rest<'a>, at: Start, program: &mut Program, scope: &mut Sc
 
 // Reads `t u)` after a bracket.
 #[cycle(after_first_application_body_function_iterator_let_in_pair_successor_term)]
-fn application<'a>(rest: Rest<'a>, at: Start, program: &mut Program, scope: &mut Scope) -> Read<'a>
+fn application<'a>(
+    rest: Rest<'a>,
+    at: Start,
+    program: &mut Program,
+    scope: &mut Scope,
+) -> Read<'a, usize>
     requires { IsCounted at program.old scope.old }
     ensures { Follows First.Application at rest.entry program.old scope.old program.new scope.new result }
 {
@@ -131,7 +143,7 @@ fn application<'a>(rest: Rest<'a>, at: Start, program: &mut Program, scope: &mut
 
 // Reads `t,u>` after `<`.
 #[cycle(after_first_application_body_function_iterator_let_in_pair_successor_term)]
-fn pair<'a>(rest: Rest<'a>, at: Start, program: &mut Program, scope: &mut Scope) -> Read<'a>
+fn pair<'a>(rest: Rest<'a>, at: Start, program: &mut Program, scope: &mut Scope) -> Read<'a, usize>
     requires { IsCounted at program.old scope.old }
     ensures { Follows First.Pair at rest.entry program.old scope.old program.new scope.new result }
 {
@@ -144,7 +156,12 @@ fn pair<'a>(rest: Rest<'a>, at: Start, program: &mut Program, scope: &mut Scope)
 
 // Reads `<x,y> = t in u` after the word `let`.
 #[cycle(after_first_application_body_function_iterator_let_in_pair_successor_term)]
-fn let_in<'a>(rest: Rest<'a>, at: Start, program: &mut Program, scope: &mut Scope) -> Read<'a>
+fn let_in<'a>(
+    rest: Rest<'a>,
+    at: Start,
+    program: &mut Program,
+    scope: &mut Scope,
+) -> Read<'a, usize>
     requires { IsCounted at program.old scope.old }
     ensures { Follows First.Let at rest.entry program.old scope.old program.new scope.new result }
 {
@@ -168,7 +185,12 @@ fn let_in<'a>(rest: Rest<'a>, at: Start, program: &mut Program, scope: &mut Scop
 
 // Reads `t u v` after the word `iter`.
 #[cycle(after_first_application_body_function_iterator_let_in_pair_successor_term)]
-fn iterator<'a>(rest: Rest<'a>, at: Start, program: &mut Program, scope: &mut Scope) -> Read<'a>
+fn iterator<'a>(
+    rest: Rest<'a>,
+    at: Start,
+    program: &mut Program,
+    scope: &mut Scope,
+) -> Read<'a, usize>
     requires { IsCounted at program.old scope.old }
     ensures { Follows First.Iterator at rest.entry program.old scope.old program.new scope.new result }
 {
