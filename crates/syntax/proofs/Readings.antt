@@ -1,5 +1,5 @@
 -- What the readers of terms do, in the words of their contracts.
-use Rattle.std.proofs.Common.{◌≡◌, ℕ, suc, ◌+◌, false, List, [], ◌∷◌, length, take, Ok, Err, vec_items, Result, sym, refl, ap, ◌∙◌, subst, arith, length-append, Bor}
+use Rattle.std.proofs.Common.{◌≡◌, ℕ, suc, ◌+◌, List, [], ◌∷◌, length, take, Ok, Err, vec_items, Result, sym, refl, ap, ◌∙◌, subst, arith, Bor}
 use lib.ListN.{length-map}
 use Rattle.syntax.specs.declared.names.First.{First}
 use Rattle.syntax.specs.declared.names.First.TheVariants as first
@@ -19,11 +19,11 @@ use Rattle.syntax.specs.Parse.{Out, got, expect, is_mark, is_word_in, function_h
 use Rattle.syntax.specs.Names.{binder_of}
 use Rattle.syntax.specs.Layout.{push}
 use Rattle.syntax.specs.Scopes.{InForce, Names, declare, enter, occur}
-use Rattle.syntax.specs.Held.{spelled, name_in_force, names_of, binders_of}
+use Rattle.syntax.specs.Held.{name_in_force, names_of, binders_of}
 use Rattle.syntax.specs.Steps.{Gives, Passes, binder_at, HeadHeld, TermHeld, begun, signed, in_force_in, IsPut, TermRead, IsCounted, part_of, Follows, BodyRead}
 use Rattle.std.proofs.lemmas.List.{take-map}
 use Rattle.syntax.proofs.ReadSteps.{held_as, held_from, occur_bound, occur_kept}
-use Rattle.syntax.proofs.TermSteps.{left_over, entered, entered_two, force_length, held_leaf, held_succ, held_app, held_pair, held_iter, held_function, held_let, visit_occ, visit_num}
+use Rattle.syntax.proofs.TermSteps.{left_over, entered, entered_two, held_leaf, held_succ, held_app, held_pair, held_iter, held_function, held_let, visit_occ, visit_num}
 
 abbrev subs : Program → List Subterm
 subs P = vec_items P.subterms
@@ -31,25 +31,9 @@ subs P = vec_items P.subterms
 abbrev cells : Program → List TypeCell
 cells P = vec_items P.types
 
--- as many names as memory holds
-pub bound_count : (S : Scope) → length (vec_items S.bound) ≡ length (names_of S).bound
-bound_count S = sym (length-map (vec_items S.bound) spelled)
-
+-- as many names in force as memory holds
 pub force_count : (S : Scope) → length (vec_items S.in_force) ≡ length (names_of S).force
 force_count S = sym (length-map (vec_items S.in_force) name_in_force)
-
-module _ (x : Binder) (S S₁ : Scope) where
-  pub declared_bound : names_of S₁ ≡ declare x (names_of S) → length (vec_items S₁.bound) ≡ length (vec_items S.bound) + 1
-  declared_bound e = omega (arith, bound_count S, bound_count S₁, ap (λ (n : Names). length n.bound) e, length-append (names_of S).bound (x.name ∷ []))
-
-  pub declared_force : names_of S₁ ≡ declare x (names_of S) → length (vec_items S₁.in_force) ≡ length (vec_items S.in_force)
-  declared_force e = omega (arith, force_count S, force_count S₁, ap (λ (n : Names). length n.force) e)
-
-  pub entered_force : names_of S₁ ≡ enter x (names_of S) → length (vec_items S₁.in_force) ≡ length (vec_items S.in_force) + 1
-  entered_force e = omega (arith, force_count S, force_count S₁, ap (λ (n : Names). length n.force) e, length-append (names_of S).force (record { binder = x; used = false } ∷ []))
-
-pub kept_force : (S S₁ : Scope) → in_force_in S₁ ≡ in_force_in S → length (vec_items S₁.in_force) ≡ length (vec_items S.in_force)
-kept_force S S₁ k = omega (arith, force_count S, force_count S₁, force_length (names_of S) (names_of S₁) k)
 
 -- the names in force before a body are those that its end leaves
 pub shut_kept : (h : ℕ) (n : Names) (S : Scope) → binders_of n.force ≡ in_force_in S → binders_of (take h n.force) ≡ take h (in_force_in S)

@@ -1,5 +1,5 @@
 -- What reading a term puts into memory and does to names, step by step.
-use Rattle.std.proofs.Common.{◌≡◌, ℕ, suc, ◌+◌, ◌*◌, ◌<◌, ◌≤◌, false, List, [], ◌∷◌, ◌++◌, length, take, sym, refl, ap, ◌∙◌, append_assoc, arith, length-append, take_all}
+use Rattle.std.proofs.Common.{◌≡◌, ℕ, suc, ◌+◌, ◌<◌, false, List, [], ◌∷◌, ◌++◌, length, take, sym, refl, ap, ◌∙◌, append_assoc, arith, length-append, take_all}
 use lib.ListN.{length-map}
 use lib.Seq.{take-append-le}
 use Rattle.std.proofs.lemmas.List.{map-append}
@@ -31,17 +31,6 @@ entered_two x y s = entered y (enter x s) ∙ ap (λ (b : List Binder). b ++ (y 
 pub force_length : (s r : Names) → binders_of r.force ≡ binders_of s.force → length r.force ≡ length s.force
 force_length s r k = sym (length-map r.force (λ (x : InForce). x.binder)) ∙ ap length k ∙ length-map s.force (λ (x : InForce). x.binder)
 
--- there is room for the parts of a sub-term that was counted
-module _ (d : ℕ) (subs : List Subterm) (cells : List TypeCell) (names : Names) (room : Room d subs cells names) (few : length subs + d < 2048) where
-  pub room_body : (x : Binder) (cells' : List TypeCell) → length cells' ≤ 2048 → Room (d + 1) subs cells' (enter x (declare x names))
-  room_body x cells' h = record { few = omega arith; signs = h; bound = omega (arith, room.bound, length-append names.bound (x.name ∷ [])); force = omega (arith, room.force, length-append names.force (record { binder = x; used = false } ∷ [])) }
-
-  pub room_pair : (x y : Binder) → Room (d + 1) subs cells (declare y (declare x names))
-  room_pair x y = record { few = omega arith; signs = room.signs; bound = omega (arith, room.bound, length-append names.bound (x.name ∷ []), length-append (names.bound ++ (x.name ∷ [])) (y.name ∷ [])); force = omega (arith, room.force) }
-
-pub room_let : (d : ℕ) (subs : List Subterm) (cells : List TypeCell) (names : Names) (x y : Binder) → length subs + (d + 1) ≤ 2048 → length cells ≤ 2048 → length names.bound ≤ 2 * (length subs + (d + 1)) → length names.force ≤ 2 * d → Room (d + 1) subs cells (enter y (enter x names))
-room_let d subs cells names x y few signs bound force = record { few = few; signs = signs; bound = bound; force = omega (arith, length-append names.force (record { binder = x; used = false } ∷ []), length-append (names.force ++ (record { binder = x; used = false } ∷ [])) (record { binder = y; used = false } ∷ [])) }
-
 pub visit_occ : (p : ℕ) (w : Name) (s : Names) → visit (occ p w) s ≡ occur p w s
 unfolding visit
 visit_occ p w s = refl
@@ -49,10 +38,6 @@ visit_occ p w s = refl
 pub visit_num : (p n : ℕ) (s : Names) → visit (num p n) s ≡ s
 unfolding visit
 visit_num p n s = refl
-
--- and for the next part, after one
-pub room_next : (d : ℕ) (subs : List Subterm) (cells : List TypeCell) (names : Names) (subs' : List Subterm) (cells' : List TypeCell) (names' : Names) (a : Tree Name × ℕ × ℕ) (i : ℕ) → TermHeld d subs cells names subs' cells' names' a i → binders_of names'.force ≡ binders_of names.force → length names.force ≤ 2 * d → Room d subs' cells' names'
-room_next d subs cells names subs' cells' names' a i x k f = record { few = omega (arith, x.counted, x.few); signs = omega (arith, x.signs, x.few_signs); bound = x.bound; force = omega (arith, force_length names names' k) }
 
 -- the last part was read, and the whole is put after it
 pub built : (d : ℕ) (subs : List Subterm) (cells : List TypeCell) (names : Names) (t : Tree Name) (p : ℕ) (shape : Shape) (s₁ : List Subterm) (c₁ : List TypeCell) (n₁ : Names) (s₂ : List Subterm) (c₂ : List TypeCell) (n₂ n₃ : Names) (a : Tree Name × ℕ × ℕ) (i : ℕ) → TermHeld (d + 1) s₁ c₁ n₁ s₂ c₂ n₂ a i → push p shape s₂ ≡ with_term (resolve (binders_of names.force) t) subs cells → c₂ ≡ with_types (resolve (binders_of names.force) t) cells → n₃ ≡ visit t names → n₃.bound ≡ n₂.bound → TermHeld d subs cells names (push p shape s₂) c₂ n₃ (t, a.1, a.2) (length s₂)

@@ -1,10 +1,7 @@
 // From text to terms: signs are read from the left, and names are resolved to their binders.
 #![tactic(auto)]
 
-ghost use Rattle.std.specs.Prelude.{◌≡◌, []};
 ghost use Rattle.syntax.specs.Answer.{Answers, ReadAs};
-ghost use Rattle.syntax.specs.Held.{names_of};
-ghost use Rattle.syntax.specs.Scopes.{no_names};
 ghost use Rattle.syntax.specs.Worked.{Worked};
 
 mod names;
@@ -20,30 +17,10 @@ mod types;
 
 use names::Rest;
 use refusal::{Fault, Refusal};
-use scope::Scope;
-use tables::{Program, Tables};
+use tables::Tables;
 use terms::term;
 
 const LONGEST: usize = 16_384;
-
-impl Program {
-    fn clear(&mut self)
-        ensures { (self.new.subterms.items ≡ []) × (self.new.types.items ≡ []) }
-    {
-        self.subterms.clear();
-        self.types.clear();
-    }
-}
-
-impl Scope {
-    fn clear(&mut self)
-        ensures { names_of self.new ≡ no_names }
-    {
-        self.bound.clear();
-        self.in_force.clear();
-        self.least = None;
-    }
-}
 
 // Reads a whole program, into tables that are emptied first.
 fn whole(text: &[u8], tables: &mut Tables) -> Result<usize, Refusal>

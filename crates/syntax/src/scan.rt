@@ -4,7 +4,7 @@ ghost use Rattle.syntax.specs.Signs.{blank, letter, digit, is_name};
 ghost use Rattle.syntax.specs.Parse.{expect as expected, is_mark, is_word_in, binder as bindings, let_head as heads};
 ghost use Rattle.syntax.specs.Steps.{skipped, run, Gives, Passes, Counted, IsBinder, AreBinders, Opens, signs_in, place_of};
 
-use crate::names::{Binder, First, Rest};
+use crate::names::{Binder, First, Read, Rest};
 use crate::refusal::{Fault, Refusal};
 
 const LARGEST: u32 = 1_000_000_000;
@@ -134,7 +134,7 @@ impl<'a> Rest<'a> {
     }
 
     // Reads a name where it is bound.
-    pub(crate) fn binder(self) -> Result<(Binder<'a>, Rest<'a>), Refusal>
+    pub(crate) fn binder(self) -> Read<'a, Binder<'a>>
         ensures { Gives self.entry.end IsBinder (bindings self.entry.end (signs_in self.entry)) result }
     {
         let rest = self.skip();
@@ -147,7 +147,7 @@ impl<'a> Rest<'a> {
     }
 
     // Reads `<x,y> =` after the word `let`.
-    pub(crate) fn let_head(self) -> Result<((Binder<'a>, Binder<'a>), Rest<'a>), Refusal>
+    pub(crate) fn let_head(self) -> Read<'a, (Binder<'a>, Binder<'a>)>
         ensures { Gives self.entry.end AreBinders (heads self.entry.end (signs_in self.entry)) result }
     {
         let rest = self.expect(b'<')?;
@@ -160,7 +160,7 @@ impl<'a> Rest<'a> {
     }
 
     // Which term begins with the word that stands at the front.
-    fn first_word(self) -> Result<(First<'a>, Rest<'a>), Refusal>
+    fn first_word(self) -> Read<'a, First<'a>>
         requires starts { 1 ≤ length self.bytes.now }
         requires letter { letter (slice_index self.bytes.now 0) ≡ true }
         ensures { Opens self.entry.end self.entry.bytes.now result }
@@ -178,7 +178,7 @@ impl<'a> Rest<'a> {
         }
     }
 
-    fn first_number(self) -> Result<(First<'a>, Rest<'a>), Refusal>
+    fn first_number(self) -> Read<'a, First<'a>>
         requires starts { 1 ≤ length self.bytes.now }
         requires digit { digit (slice_index self.bytes.now 0) ≡ true }
         ensures { Opens self.entry.end self.entry.bytes.now result }
@@ -191,7 +191,7 @@ impl<'a> Rest<'a> {
     }
 
     // Which term begins at the front of a text that begins with a sign, if one can.
-    pub(crate) fn first(self) -> Result<(First<'a>, Rest<'a>), Refusal>
+    pub(crate) fn first(self) -> Read<'a, First<'a>>
         requires { self.bytes.now ≡ skipped self.bytes.now }
         ensures { Opens self.entry.end self.entry.bytes.now result }
     {

@@ -40,4 +40,12 @@ impl Scope {
             least: None,
         })
     }
+
+    pub(crate) fn clear(&mut self)
+        ensures { names_of self.new ≡ no_names }
+    {
+        self.bound.clear();
+        self.in_force.clear();
+        self.least = None;
+    }
 }

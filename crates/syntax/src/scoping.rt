@@ -1,9 +1,8 @@
 // Names: what binding, entering, using and leaving does to them.
-ghost use Rattle.std.specs.Prelude.{◌≡◌, ◌<◌, ◌≤◌, map, length};
-ghost use Rattle.std.specs.Str.{bytes_eq};
+ghost use Rattle.std.specs.Prelude.{◌≡◌, ◌<◌, ◌≤◌, length};
 ghost use Rattle.syntax.specs.Names.{among, fault as fault_at, sooner as soonest, binder_of};
 ghost use Rattle.syntax.specs.Scopes.{declare as declared, enter as entered, occur as occurred, settle as settled, note as noted, shut};
-ghost use Rattle.syntax.specs.Held.{spelled, name_in_force, names_of, binders_of};
+ghost use Rattle.syntax.specs.Held.{spelled, names_of, binders_of};
 ghost use Rattle.syntax.specs.Steps.{binder_at};
 
 use crate::names::Binder;

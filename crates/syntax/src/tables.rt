@@ -1,6 +1,6 @@
 ghost use Rattle.std.specs.Prelude.{◌≡◌, ◌≤◌, [], IfOk, vec_capacity};
 
-use crate::program::{Subterm, TypeCell};
+use crate::program::{Shape, Subterm, TypeCell};
 use crate::scope::Scope;
 use std::alloc::{AllocError, Global};
 
@@ -14,6 +14,9 @@ pub struct Program {
 }
 
 impl Program {
+    ghost use Rattle.std.specs.Prelude.{◌<◌, length};
+    ghost use Rattle.syntax.specs.Steps.{IsPut, IsTypePut};
+
     // Empty, with room for all that a text may hold.
     fn new(heap: Global) -> Result<Program, AllocError>
         ensures { IfOk result (λ p. (p.subterms.items ≡ []) × (p.types.items ≡ [])) }
@@ -22,6 +25,33 @@ impl Program {
             subterms: Vec::with_capacity(heap, 2048)?,
             types: Vec::with_capacity(heap, 4096)?,
         })
+    }
+
+    pub(crate) fn clear(&mut self)
+        ensures { (self.new.subterms.items ≡ []) × (self.new.types.items ≡ []) }
+    {
+        self.subterms.clear();
+        self.types.clear();
+    }
+
+    // Puts a sub-term after the others.
+    pub(crate) fn put(&mut self, place: usize, shape: Shape) -> usize
+        requires { length self.old.subterms.items < 2048 }
+        ensures { IsPut place shape self.old self.new result }
+    {
+        let at = self.subterms.len();
+        self.subterms.push_reserved(Subterm { place, shape });
+        at
+    }
+
+    // Puts a type cell after the others.
+    pub(crate) fn put_type(&mut self, cell: TypeCell) -> usize
+        requires { length self.old.types.items < 4096 }
+        ensures { IsTypePut cell self.old self.new result }
+    {
+        let at = self.types.len();
+        self.types.push_reserved(cell);
+        at
     }
 }
 

@@ -1,11 +1,11 @@
 // Terms: the sub-terms that hold them, and the names that they bind and use.
 ghost use Rattle.std.specs.Prelude.{◌+◌, ◌-◌, ◌<◌, ◌≤◌, length};
 ghost use Rattle.syntax.specs.Parse.{term as terms};
-ghost use Rattle.syntax.specs.Steps.{TermRead, BodyRead, Follows, HasRoom, IsCounted, IsPut, begun, signed, signs_in};
+ghost use Rattle.syntax.specs.Steps.{TermRead, BodyRead, Follows, HasRoom, IsCounted, begun, signed, signs_in};
 
-use crate::names::{First, Rest, Start};
-use crate::program::{Shape, Subterm};
-use crate::refusal::{Fault, Refusal};
+use crate::names::{First, Read, Rest, Start};
+use crate::program::Shape;
+use crate::refusal::Fault;
 use crate::scope::Scope;
 use crate::scoping::Guard;
 use crate::tables::Program;
@@ -15,29 +15,15 @@ const DEPTH: usize = 128;
 
 const SUBTERMS: usize = 2048;
 
-// The number of the sub-term that was read, and what is left of the text.
-pub(crate) type Read<'a> = Result<(usize, Rest<'a>), Refusal>;
-
-impl Program {
-    // Puts a sub-term after the others.
-    fn put(&mut self, place: usize, shape: Shape) -> usize
-        requires { length self.old.subterms.items < 2048 }
-        ensures { IsPut place shape self.old self.new result }
-    {
-        let at = self.subterms.len();
-        self.subterms.push_reserved(Subterm { place, shape });
-        at
-    }
-}
-
-// Reads a term inside `depth` others. Whatever it answers, the names in force are again those that were.
+// Reads a term inside `depth` others, and gives the number of its sub-term. Whatever it answers, the names in force are again those that were.
+// The program and the names are two borrows here and below, and not one: the guard of a body holds the names alone while the program is written.
 #[cycle(after_first_application_body_function_iterator_let_in_pair_successor_term)]
 pub(crate) fn term<'a>(
     rest: Rest<'a>,
     depth: usize,
     program: &mut Program,
     scope: &mut Scope,
-) -> Read<'a>
+) -> Read<'a, usize>
     requires { HasRoom depth program.old scope.old }
     ensures { TermRead rest.entry.end depth program.old scope.old program.new scope.new (terms rest.entry.end (128 - depth) (begun depth program.old) (signed program.old) (signs_in rest.entry)) result }
 {
@@ -59,7 +45,7 @@ fn after_first<'a>(
     at: Start,
     program: &mut Program,
     scope: &mut Scope,
-) -> Read<'a>
+) -> Read<'a, usize>
     requires { IsCounted at program.old scope.old }
     ensures { Follows first.entry at rest.entry program.old scope.old program.new scope.new result }
 {
@@ -80,7 +66,12 @@ fn after_first<'a>(
 
 // Reads `t` after `S`.
 #[cycle(after_first_application_body_function_iterator_let_in_pair_successor_term)]
-fn successor<'a>(rest: Rest<'a>, at: Start, program: &mut Program, scope: &mut Scope) -> Read<'a>
+fn successor<'a>(
+    rest: Rest<'a>,
+    at: Start,
+    program: &mut Program,
+    scope: &mut Scope,
+) -> Read<'a, usize>
     requires { IsCounted at program.old scope.old }
     ensures { Follows First.Successor at rest.entry program.old scope.old program.new scope.new result }
 {
@@ -96,7 +87,7 @@ fn body<'a>(
     before: usize,
     program: &mut Program,
     scope: &mut Scope,
-) -> Read<'a>
+) -> Read<'a, usize>
     requires deep { at.depth < 128 }
     requires room { HasRoom (at.depth + 1) program.old scope.old }
     requires own { before ≤ length scope.old.in_force.items }
@@ -110,7 +101,12 @@ fn body<'a>(
 
 // Reads `x:T.t` after a backslash.
 #[cycle(after_first_application_body_function_iterator_let_in_pair_successor_term)]
-fn function<'a>(rest: Rest<'a>, at: Start, program: &mut Program, scope: &mut Scope) -> Read<'a>
+fn function<'a>(
+    rest: Rest<'a>,
+    at: Start,
+    program: &mut Program,
+    scope: &mut Scope,
+) -> Read<'a, usize>
     requires { IsCounted at program.old scope.old }
     ensures { Follows First.Function at rest.entry program.old scope.old program.new scope.new result }
 {
@@ -129,7 +125,12 @@ fn function<'a>(rest: Rest<'a>, at: Start, program: &mut Program, scope: &mut Sc
 
 // Reads `t u)` after a bracket.
 #[cycle(after_first_application_body_function_iterator_let_in_pair_successor_term)]
-fn application<'a>(rest: Rest<'a>, at: Start, program: &mut Program, scope: &mut Scope) -> Read<'a>
+fn application<'a>(
+    rest: Rest<'a>,
+    at: Start,
+    program: &mut Program,
+    scope: &mut Scope,
+) -> Read<'a, usize>
     requires { IsCounted at program.old scope.old }
     ensures { Follows First.Application at rest.entry program.old scope.old program.new scope.new result }
 {
@@ -142,7 +143,7 @@ fn application<'a>(rest: Rest<'a>, at: Start, program: &mut Program, scope: &mut
 
 // Reads `t,u>` after `<`.
 #[cycle(after_first_application_body_function_iterator_let_in_pair_successor_term)]
-fn pair<'a>(rest: Rest<'a>, at: Start, program: &mut Program, scope: &mut Scope) -> Read<'a>
+fn pair<'a>(rest: Rest<'a>, at: Start, program: &mut Program, scope: &mut Scope) -> Read<'a, usize>
     requires { IsCounted at program.old scope.old }
     ensures { Follows First.Pair at rest.entry program.old scope.old program.new scope.new result }
 {
@@ -155,7 +156,12 @@ fn pair<'a>(rest: Rest<'a>, at: Start, program: &mut Program, scope: &mut Scope)
 
 // Reads `<x,y> = t in u` after the word `let`.
 #[cycle(after_first_application_body_function_iterator_let_in_pair_successor_term)]
-fn let_in<'a>(rest: Rest<'a>, at: Start, program: &mut Program, scope: &mut Scope) -> Read<'a>
+fn let_in<'a>(
+    rest: Rest<'a>,
+    at: Start,
+    program: &mut Program,
+    scope: &mut Scope,
+) -> Read<'a, usize>
     requires { IsCounted at program.old scope.old }
     ensures { Follows First.Let at rest.entry program.old scope.old program.new scope.new result }
 {
@@ -179,7 +185,12 @@ fn let_in<'a>(rest: Rest<'a>, at: Start, program: &mut Program, scope: &mut Scop
 
 // Reads `t u v` after the word `iter`.
 #[cycle(after_first_application_body_function_iterator_let_in_pair_successor_term)]
-fn iterator<'a>(rest: Rest<'a>, at: Start, program: &mut Program, scope: &mut Scope) -> Read<'a>
+fn iterator<'a>(
+    rest: Rest<'a>,
+    at: Start,
+    program: &mut Program,
+    scope: &mut Scope,
+) -> Read<'a, usize>
     requires { IsCounted at program.old scope.old }
     ensures { Follows First.Iterator at rest.entry program.old scope.old program.new scope.new result }
 {

@@ -1,11 +1,11 @@
 // Types: the cells that hold them.
-ghost use Rattle.std.specs.Prelude.{◌≡◌, ◌+◌, ◌-◌, ◌<◌, ◌≤◌, length};
+ghost use Rattle.std.specs.Prelude.{◌≡◌, ◌+◌, ◌-◌, ◌≤◌, length};
 ghost use Rattle.syntax.specs.Parse.{type, joint as joints, joined, function_head};
-ghost use Rattle.syntax.specs.Steps.{Gives, IsTypePut, TypeHeld, HeadHeld, cell_of, signs_in};
+ghost use Rattle.syntax.specs.Steps.{Gives, TypeHeld, HeadHeld, cell_of, signs_in};
 
-use crate::names::{Head, Rest};
+use crate::names::{Head, Read, Rest};
 use crate::program::TypeCell;
-use crate::refusal::{Fault, Refusal};
+use crate::refusal::Fault;
 use crate::signs::Joint;
 use crate::tables::Program;
 
@@ -15,7 +15,7 @@ const SIGNS: usize = 2048;
 
 impl<'a> Rest<'a> {
     // Reads the sign between the parts of a type, before which `count` type signs stand.
-    fn joint(self, count: usize) -> Result<(Joint, Rest<'a>), Refusal>
+    fn joint(self, count: usize) -> Read<'a, Joint>
         ensures { Gives self.entry.end (λ j k. j ≡ k) (joints self.entry.end count (signs_in self.entry)) result }
     {
         let rest = self.skip();
@@ -40,18 +40,6 @@ fn cell(joint: Joint, first: usize, second: usize) -> TypeCell
     }
 }
 
-impl Program {
-    // Puts a type cell after the others.
-    fn put_type(&mut self, cell: TypeCell) -> usize
-        requires { length self.old.types.items < 4096 }
-        ensures { IsTypePut cell self.old self.new result }
-    {
-        let at = self.types.len();
-        self.types.push_reserved(cell);
-        at
-    }
-}
-
 // Reads a type inside `depth` others, of which `open` have passed the sign between their parts.
 #[cycle(brackets_read_type)]
 fn read_type<'a>(
@@ -59,7 +47,7 @@ fn read_type<'a>(
     depth: usize,
     open: usize,
     program: &mut Program,
-) -> Result<(usize, Rest<'a>), Refusal>
+) -> Read<'a, usize>
     requires { length program.old.types.items + «open» ≤ 2048 }
     ensures { Gives rest.entry.end (TypeHeld «open» program.old program.new) (type rest.entry.end (64 - depth) (length program.old.types.items + «open») (signs_in rest.entry)) result }
 {
@@ -84,12 +72,7 @@ fn read_type<'a>(
 
 // Reads `T>U)` or `T*U)` after a bracket, where the parts are inside `depth` others.
 #[cycle(brackets_read_type)]
-fn brackets<'a>(
-    rest: Rest<'a>,
-    depth: usize,
-    open: usize,
-    program: &mut Program,
-) -> Result<(usize, Rest<'a>), Refusal>
+fn brackets<'a>(rest: Rest<'a>, depth: usize, open: usize, program: &mut Program) -> Read<'a, usize>
     requires { length program.old.types.items + «open» ≤ 2048 }
     ensures { Gives rest.entry.end (TypeHeld «open» program.old program.new) (joined rest.entry.end (type rest.entry.end (64 - depth)) (length program.old.types.items + «open») (signs_in rest.entry)) result }
 {
@@ -101,10 +84,7 @@ fn brackets<'a>(
 }
 
 // Reads `x:T.` after a backslash.
-pub(crate) fn function_head<'a>(
-    rest: Rest<'a>,
-    program: &mut Program,
-) -> Result<(Head<'a>, Rest<'a>), Refusal>
+pub(crate) fn function_head<'a>(rest: Rest<'a>, program: &mut Program) -> Read<'a, Head<'a>>
     requires { length program.old.types.items ≤ 2048 }
     ensures { Gives rest.entry.end (HeadHeld program.old program.new) (function_head rest.entry.end (length program.old.types.items) (signs_in rest.entry)) result }
 {
