@@ -68,8 +68,8 @@ fn lay_transfers(uses: usize, iterator: u32, next: Next, cells: &mut [Cell]) -> 
     Next { node: end, ..next }
 }
 
-// Writes the nodes of part `i`, numbered from `next` on, and gives the numbers after these. What is next is passed on by value: kept in a
-// struct with the cells it would be no plainer, since each method would have to promise that it keeps the place of these.
+// Writes the nodes of part `i`, numbered from `next` on, and gives the numbers after these. The cells and the numbers stay parameters: as
+// fields of a struct, each method would have to promise that it keeps the reference to the cells, which is no plainer.
 pub(crate) fn lay(parts: &[Part], i: usize, next: Next, cells: &mut [Cell]) -> Next
     requires { (t : Term) × Layable parts.now i next (length cells.old) t }
     ensures { (t : Term) → Layable parts.now i next (length cells.old) t → LaidOut t next result cells.old cells.new }

@@ -1,5 +1,5 @@
 // Counting: how many nodes each sub-term makes, and how many uses of variables are free in it.
-ghost use Rattle.std.specs.Prelude.{◌≡◌, ◌-◌, ◌<◌, ◌≤◌, length, vec_capacity, slice_index_or};
+ghost use Rattle.std.specs.Prelude.{◌≡◌, ◌≤◌, length, vec_capacity, slice_index_or};
 ghost use Rattle.network.specs.Parts.{no_part};
 ghost use Rattle.network.specs.Plan.{count_at, both, with_nodes, without_uses, with_transfers, count_of, Planned};
 

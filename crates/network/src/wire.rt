@@ -1,5 +1,5 @@
 // The second round: the wires are written, with a table of the ports at which variables start.
-ghost use Rattle.std.specs.Prelude.{◌≡◌, ◌+◌, ◌*◌, ◌<◌, ◌≤◌, [], ◌++◌, length, replicate, None, IfOk, vec_len, vec_capacity, slice_set};
+ghost use Rattle.std.specs.Prelude.{◌≡◌, ◌+◌, ◌<◌, ◌≤◌, [], ◌++◌, length, replicate, None, IfOk, vec_len, vec_capacity, slice_set};
 ghost use Rattle.calculus.specs.Terms.{Term, free, nodes};
 ghost use Rattle.geometry.specs.Memory.{wired_cells};
 ghost use Rattle.network.specs.Wiring.{start_of, starting, in_force, Gatherable, own_wires, Joinable, Crossable, Crossed, Passable, Enclosed, Passed, Wirable, Wired};
@@ -17,8 +17,8 @@ use syntax::program::Shape;
 const PLACES: usize = 16_384;
 
 // What wiring works in: for each place in a text the port at which the variable bound there starts, where it is in force; and the free uses
-// of a part. The parts and the cells stay parameters: were they fields, each method would have to promise that it keeps the one and the
-// place of the other, so that would be no plainer.
+// of a part. The parts and the cells stay parameters: as fields here, each method would have to promise that it keeps the parts and the
+// reference to the cells, which is no plainer.
 #[derive(Drop)]
 pub(crate) struct Wiring {
     starts: Vec<Option<usize>>,
@@ -138,6 +138,7 @@ impl Wiring {
     }
 
     // Wires part `i`, whose nodes are numbered from `k` on and whose root goes to the port `root`, and gives the number after its nodes.
+    // These three stay apart: as a struct, each call would have to name them, which is no plainer.
     #[cycle(wire_wire_inside)]
     pub(crate) fn wire(
         &mut self,
