@@ -1,22 +1,17 @@
 -- The line that answers a text: the counts of its program, or why it is refused. Assumes nothing.
-use Rattle.std.specs.Prelude.{◌≡◌, ℕ, List, [], ◌++◌, Ok, Err, codes, decimal, Result}
+use Rattle.std.specs.Prelude.{◌≡◌, ℕ, List, [], Ok, Err, Result}
 use Rattle.syntax.specs.declared.refusal.Refusal.{Refusal}
 use Rattle.syntax.specs.Trees.{Name, Tree}
-use Rattle.syntax.specs.Names.{number, resolve}
+use Rattle.syntax.specs.Names.{resolve, refusal_text}
 use Rattle.language.specs.declared.counts.Facts.{Facts}
 use Rattle.language.specs.Accepts.{Known}
+use Rattle.language.specs.Printed.{counts_text}
 use Rattle.grammar.specs.Exactness.{Accepted, Rejected}
 
 -- the counts of the text's term, or the refusal of the first question that says no
 abbrev pub Examined : List ℕ → Result Facts Refusal → Type 0
 Examined text (Ok f) = (t : Tree Name) × Accepted text t × Known (resolve [] t) f
 Examined text (Err x) = Rejected text x
-
-abbrev pub counts_text : Facts → List ℕ
-counts_text f = codes "subterms=" ++ (decimal f.subterms ++ (codes " iterators=" ++ (decimal f.iterators ++ (codes " successors=" ++ (decimal f.successors ++ (codes " height=" ++ (decimal f.height ++ (codes " weight=" ++ decimal f.weight))))))))
-
-abbrev pub refusal_text : Refusal → List ℕ
-refusal_text f = codes "refused=" ++ (decimal (number f.fault) ++ (codes " place=" ++ decimal f.place))
 
 abbrev pub line_of : Result Facts Refusal → List ℕ
 line_of (Ok f) = counts_text f

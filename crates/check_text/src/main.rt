@@ -2,7 +2,7 @@
 #![tactic(auto)]
 
 ghost use Rattle.std.specs.Prelude.{◌≡◌, IfOk, string_bytes};
-ghost use Rattle.check_text.specs.Lines.{Examined, counts_text, refusal_text, Answer};
+ghost use Rattle.check_text.specs.Lines.{Examined, Answer};
 
 use grammar::accept;
 use input::read_text;

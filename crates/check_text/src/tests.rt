@@ -136,24 +136,69 @@ fn limits(rt: HostRuntime) -> Result<(), Fail> {
     let mut workspace = Workspace::new(heap)?;
     let w = &mut workspace;
     answered(&rt, w, &run_of(heap, b" ", 16_383, b"3")?, None);
-    answered(&rt, w, &run_of(heap, b" ", 16_384, b"3")?, Some((Fault::TooLong, 0)));
-    answered(&rt, w, &run_of(heap, b"9", 16_384, b"")?, Some((Fault::LargeNumber, 0)));
-    answered(&rt, w, &run_of(heap, b"0", 9_000, b"1")?, Some((Fault::WrongSign, 0)));
+    answered(
+        &rt,
+        w,
+        &run_of(heap, b" ", 16_384, b"3")?,
+        Some((Fault::TooLong, 0)),
+    );
+    answered(
+        &rt,
+        w,
+        &run_of(heap, b"9", 16_384, b"")?,
+        Some((Fault::LargeNumber, 0)),
+    );
+    answered(
+        &rt,
+        w,
+        &run_of(heap, b"0", 9_000, b"1")?,
+        Some((Fault::WrongSign, 0)),
+    );
     answered(&rt, w, &run_of(heap, b"S", 127, b"3")?, None);
-    answered(&rt, w, &run_of(heap, b"S", 128, b"3")?, Some((Fault::PassedLimit, 128)));
+    answered(
+        &rt,
+        w,
+        &run_of(heap, b"S", 128, b"3")?,
+        Some((Fault::PassedLimit, 128)),
+    );
     answered(&rt, w, &tall(heap, 63, b".x")?, Some((Fault::NoNumber, 0)));
-    answered(&rt, w, &tall(heap, 63, b".<x,1>")?, Some((Fault::HighType, 0)));
-    answered(&rt, w, &tall(heap, 64, b".x")?, Some((Fault::PassedLimit, 193)));
+    answered(
+        &rt,
+        w,
+        &tall(heap, 63, b".<x,1>")?,
+        Some((Fault::HighType, 0)),
+    );
+    answered(
+        &rt,
+        w,
+        &tall(heap, 64, b".x")?,
+        Some((Fault::PassedLimit, 193)),
+    );
     let pairs = *b"<,>";
-    answered(&rt, w, &wide(heap, b"S ", b'3', pairs, b"")?, Some((Fault::IllTyped, 0)));
-    answered(&rt, w, &wide(heap, b"S S ", b'3', pairs, b"")?, Some((Fault::PassedLimit, 4086)));
+    answered(
+        &rt,
+        w,
+        &wide(heap, b"S ", b'3', pairs, b"")?,
+        Some((Fault::IllTyped, 0)),
+    );
+    answered(
+        &rt,
+        w,
+        &wide(heap, b"S S ", b'3', pairs, b"")?,
+        Some((Fault::PassedLimit, 4086)),
+    );
     let products = *b"(*)";
     let whole = wide(heap, b"\\x:", b'N', products, b".\\y:N.<x,y>")?;
     answered(&rt, w, &whole, Some((Fault::NoNumber, 0)));
     let past = wide(heap, b"\\x:", b'N', products, b".\\y:(N*N).<x,y>")?;
     answered(&rt, w, &past, Some((Fault::PassedLimit, 4102)));
     answered(&rt, w, &iterators(heap, 64)?, None);
-    answered(&rt, w, &iterators(heap, 65)?, Some((Fault::ManyIterators, 0)));
+    answered(
+        &rt,
+        w,
+        &iterators(heap, 65)?,
+        Some((Fault::ManyIterators, 0)),
+    );
     Ok(())
 }
 

@@ -16,7 +16,7 @@ impl<'a> Text for Refused<'a> {
 
     fn write(&self, writer: &mut Writer<'_>) {
         writer.bytes(b"refused=");
-        writer.number(self.refusal.fault.number() as u64);
+        writer.number(u64::from(u8::from(self.refusal.fault)));
         writer.bytes(b" place=");
         writer.number(self.refusal.place as u64);
         writer.bytes(b"\n");

@@ -137,6 +137,3 @@ tree_more (app p t u) subs cells more i (j, k, h, l, m, d, f) = (j, k, h, l, m, 
 tree_more (pair p t u) subs cells more i (j, k, h, l, m, d, f) = (j, k, h, l, m, tree_more t subs cells more j d, tree_more u subs cells more k f)
 tree_more (split p v w t u) subs cells more i (j, k, h, l, m, d, f) = (j, k, h, l, m, tree_more t subs cells more j d, tree_more u subs cells more k f)
 tree_more (iter p t u v) subs cells more i (j, k, q, h, l, m, n, d, f, g) = (j, k, q, h, l, m, n, tree_more t subs cells more j d, tree_more u subs cells more k f, tree_more v subs cells more q g)
-
-pub shaped_as : (subs : List Subterm) (cells : List TypeCell) (i : ℕ) (x : Subterm) (s : Shape) → get_or subs i blank ≡ x → x.shape ≡ s → (t : Tree ℕ) → Denotes subs cells i t → Shaped subs cells i x.place s t
-shaped_as subs cells i x s e f t d = subst (λ q. Shaped subs cells i x.place q t) f (shaped subs cells i t x e d)

@@ -1,6 +1,6 @@
 -- Counting typings one by one counts their judgements.
-use Rattle.std.proofs.Common.{◌≡◌, ℕ, zero, suc, ◌+◌, ◌-◌, ◌*◌, ◌^◌, ◌<◌, ◌≤◌, min, max, List, [], ◌∷◌, ◌++◌, length, get_or, take, refl, ap, ◌∙◌, arith}
-use Rattle.std.proofs.lemmas.List.{take_more}
+use Rattle.std.proofs.Common.{◌≡◌, ℕ, zero, suc, ◌+◌, ◌-◌, ◌*◌, ◌^◌, ◌<◌, ◌≤◌, min, max, List, [], ◌∷◌, ◌++◌, length, get_or, take, vec_items, sym, refl, ap, ◌∙◌, subst, arith, length-take}
+use Rattle.std.proofs.lemmas.List.{take_more, get_or_default}
 use Rattle.calculus.specs.Types.{Ty, ◌⇒◌, ◌⊗◌, height, naturals}
 use Rattle.syntax.specs.Trees.{Tree, occ, num, succ, lam, app, pair, split, iter}
 use Rattle.syntax.specs.Program.{Denotes}
@@ -8,14 +8,15 @@ use Rattle.syntax.specs.declared.program.TypeCell.{TypeCell}
 use Rattle.syntax.specs.declared.program.Shape.{Shape}
 use Rattle.syntax.specs.declared.program.Shape.TheVariants.{Variable, Number, Successor, Function, Application, Pair, Let, Iterator}
 use Rattle.syntax.specs.declared.program.Subterm.{Subterm}
+use Rattle.language.specs.declared.table.TypeTable.{TypeTable}
 use Rattle.language.specs.declared.typing.Typing.{Typing}
 use Rattle.language.specs.declared.measure.Measure.{Measure}
 use Rattle.language.specs.declared.counts.Facts.{Facts}
 use Rattle.language.specs.Measures.{measure_of, number, HeightsOf, NaturalsOf}
 use Rattle.language.specs.Judgements.{Judgement, a_successor, an_iterator, counted, share, Low}
 use Rattle.language.specs.Checks.{Stands, Lists}
-use Rattle.language.specs.Counts.{successor_at, iterator_at, share_at, Counts}
-use Rattle.language.proofs.Rules.{kept_height}
+use Rattle.language.specs.Counts.{successor_at, iterator_at, share_at, Countable, Counts}
+use Rattle.language.proofs.Heights.{kept_height}
 use Rattle.language.proofs.Shapes.{blank, there}
 use Rattle.language.proofs.Sums.{low_naturals}
 
@@ -64,11 +65,11 @@ module _ (subs : List Subterm) (measures : List Measure) where
       let h = push xs x in
       same_facts _ _ (omega (arith, ap (λ f. f.subterms) h)) (omega (arith, ap (λ f. f.iterators) h)) (omega (arith, ap (λ f. f.successors) h)) (omega (arith, ap (λ f. f.height) h)) (omega (arith, ap (λ f. f.weight) h))
 
-  pub tally_more : (xs : List Typing) (i : ℕ) (d : Typing) → i < length xs → tally (take (i + 1) xs) ≡ more (tally (take i xs)) (get_or xs i d)
+  tally_more : (xs : List Typing) (i : ℕ) (d : Typing) → i < length xs → tally (take (i + 1) xs) ≡ more (tally (take i xs)) (get_or xs i d)
   tally_more xs i d h = ap tally (take_more xs i d h) ∙ push (take i xs) (get_or xs i d)
 
   -- counts that no word is too small for
-  pub small : (xs : List Typing) → ((tally xs).subterms ≡ length xs) × ((tally xs).iterators ≤ length xs) × ((tally xs).successors ≤ length xs)
+  small : (xs : List Typing) → ((tally xs).subterms ≡ length xs) × ((tally xs).iterators ≤ length xs) × ((tally xs).successors ≤ length xs)
   small [] = (refl, omega arith, omega arith)
   small (x ∷ xs) = let h = small xs in (ap suc h.0, omega (arith, h.1, one_iterator (shape_of x)), omega (arith, h.2, one_successor (shape_of x)))
     where
@@ -85,7 +86,7 @@ module _ (subs : List Subterm) (measures : List Measure) where
       pub successor : successor_at (shape_of x) ≡ a_successor j.subject
       pub height : (measure_for x).height ≡ height j.type
       pub weight : share_at (shape_of x) (measure_for x) ≡ share j
-      pub light : share j ≤ 2 ^ 64
+      light : share j ≤ 2 ^ 64
 
     record Shown (t : Tree ℕ) (s : Shape) (m : Measure) : Type 0 where
       pub iterator : iterator_at s ≡ an_iterator t
@@ -141,7 +142,7 @@ module _ (subs : List Subterm) (measures : List Measure) where
         }
 
     -- the weight so far, and where sub-terms stand
-    pub light : (xs : List Typing) (js : List Judgement) (k : ℕ) → Lists subs cells xs js → Low js → (tally (take k xs)).weight ≤ k * 2 ^ 64
+    light : (xs : List Typing) (js : List Judgement) (k : ℕ) → Lists subs cells xs js → Low js → (tally (take k xs)).weight ≤ k * 2 ^ 64
     light [] [] zero h l = omega arith
     light [] [] (suc k) h l = omega arith
     light [] (j ∷ js) k h l = absurd h
@@ -149,8 +150,35 @@ module _ (subs : List Subterm) (measures : List Measure) where
     light (x ∷ xs) (j ∷ js) zero h l = omega arith
     light (x ∷ xs) (j ∷ js) (suc k) h l = let s = says x j h.0 l.0 in omega (arith, s.weight, s.light, light xs js k h.1 l.1)
 
-    pub stands_at : (xs : List Typing) (js : List Judgement) (i : ℕ) (d : Typing) → Lists subs cells xs js → i < length xs → (get_or xs i d).subterm < length subs
+    stands_at : (xs : List Typing) (js : List Judgement) (i : ℕ) (d : Typing) → Lists subs cells xs js → i < length xs → (get_or xs i d).subterm < length subs
     stands_at [] js i d h l = absurd (omega arith)
     stands_at (x ∷ xs) [] i d h l = absurd h
     stands_at (x ∷ xs) (j ∷ js) zero d h l = there subs cells x.subterm j.subject h.0.term
     stands_at (x ∷ xs) (j ∷ js) (suc i) d h l = stands_at xs js i d h.1 (omega arith)
+
+-- one turn of the count, of at most 2048 typings: the next one has the shape s
+pub record Turn (subs : List Subterm) (measures : List Measure) (xs : List Typing) (i : ℕ) (f : Facts) (x : Typing) (s : Shape) : Type 0 where
+  pub there : x.subterm < length subs
+  pub subterms : f.subterms + 1 ≤ 2048
+  pub iterators : f.iterators + iterator_at s ≤ 2048
+  pub successors : f.successors + successor_at s ≤ 2048
+  pub weight : f.weight + share_at s (measure_for subs measures x) ≤ 2048 * 2 ^ 64
+  pub next : record { subterms = f.subterms + 1; iterators = f.iterators + iterator_at s; successors = f.successors + successor_at s; height = max f.height (measure_for subs measures x).height; weight = f.weight + share_at s (measure_for subs measures x) } ≡ tally subs measures (take (i + 1) xs)
+
+pub turn : {subs : List Subterm} (types : TypeTable) {xs : List Typing} (i : ℕ) (f : Facts) (d : Subterm) → Countable subs (vec_items types.cells) xs → f ≡ tally subs (vec_items types.measures) (take i xs) → i < length xs → let x = get_or xs i (record { subterm = 0; cell = 0 }) in Turn subs (vec_items types.measures) xs i f x (get_or subs x.subterm d).shape
+turn {subs} types {xs} i f d r e h =
+    let ms = vec_items types.measures in
+    let none : Typing = record { subterm = 0; cell = 0 } in
+    let x = get_or xs i none in
+    let there = stands_at subs ms (vec_items types.cells) types.heights types.counts xs r.judged i none r.lists h in
+    let w : tally subs ms (take (i + 1) xs) ≡ more subs ms f x = tally_more subs ms xs i none h ∙ ap (λ g. more subs ms g x) (sym e) in
+    let s = small subs ms (take (i + 1) xs) in
+    let l = length-take (i + 1) xs in
+    subst (Turn subs ms xs i f x) (ap (λ y. y.shape) (get_or_default subs x.subterm blank d there)) (record {
+      there = there;
+      subterms = omega (arith, ap (λ g. g.subterms) w, s.0, l, r.few);
+      iterators = omega (arith, ap (λ g. g.iterators) w, s.1, l, r.few);
+      successors = omega (arith, ap (λ g. g.successors) w, s.2, l, r.few);
+      weight = omega (arith, ap (λ g. g.weight) w, light subs ms (vec_items types.cells) types.heights types.counts xs r.judged (i + 1) r.lists r.low, r.few, h);
+      next = sym w;
+    })

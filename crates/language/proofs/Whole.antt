@@ -14,57 +14,50 @@ use Rattle.syntax.specs.declared.program.Subterm.{Subterm}
 use Rattle.syntax.specs.declared.refusal.Refusal.{Refusal}
 use Rattle.syntax.specs.declared.refusal.Fault.TheVariants.{NoNumber, ManyIterators}
 use Rattle.language.specs.declared.checker.Checker.{Checker}
-use Rattle.language.specs.declared.typing.Typing.{Typing}
 use Rattle.language.specs.declared.counts.Facts.{Facts}
 use Rattle.language.specs.Infer.{good, infer}
 use Rattle.language.specs.Measures.{IsType}
 use Rattle.language.specs.Judgements.{Judgement, judgements, type_of, nobody, Low}
-use Rattle.language.specs.Checks.{cells_of, typings_of, context_of, Knows, Lists, Ready, Typed, Checks}
+use Rattle.language.specs.Checks.{cells_of, typings_of, context_of, Begun, Knows, Lists, Ready, Typed, Checks}
 use Rattle.language.specs.Counts.{Countable, Counts, Limited}
-use Rattle.language.specs.Accepts.{Numbers, numbered, accepts, Known, Holds, Given, Concludes, Leaves}
+use Rattle.language.specs.Accepts.{Numbers, numbered, Known, Given, Concludes}
 use Rattle.language.proofs.Shapes.{tree_more, spans_more, spans_count, there}
 use Rattle.language.proofs.Walk.{trees_last, lists_length}
 use Rattle.language.proofs.Inferring.{judged_all, sound}
 use Rattle.language.proofs.Sums.{said, iterators-counted, successors-counted}
 
--- the checker as it begins: the annotations' cells, and N
-pub record Begun (cells : List TypeCell) (m : Checker) : Type 0 where
-  pub types : cells_of m ≡ cells ++ (kind.N ∷ [])
-  pub typings : typings_of m ≡ []
-  pub context : context_of m ≡ []
-  pub number : m.number ≡ length cells
-
-module _ (subs : List Subterm) (cells : List TypeCell) (root : ℕ) (m : Checker) (b : Begun cells m) where
+module _ {cells : List TypeCell} {m : Checker} (b : Begun cells m) where
   number_is : DenotesType (cells_of m) m.number N
   number_is = subst (λ n. DenotesType (cells_of m) n N) (sym b.number) (subst (λ cs. DenotesType cs (length cells) N) (sym b.types) (omega (arith, length-append cells (kind.N ∷ [])), get_or_push cells kind.N kind.N (length cells) refl))
 
   knows_nobody : Knows (cells_of m) m.number (context_of m) nobody
   knows_nobody = subst (λ hs. Knows (cells_of m) m.number hs nobody) (sym b.context) (λ x. number_is)
 
-  at_begin : (t : Tree ℕ) → Denotes subs cells root t → Denotes subs (cells_of m) root t
-  at_begin t d = subst (λ cs. Denotes subs cs root t) (sym b.types) (tree_more t subs cells (kind.N ∷ []) root d)
+  at_begin : (subs : List Subterm) (root : ℕ) (t : Tree ℕ) → Denotes subs cells root t → Denotes subs (cells_of m) root t
+  at_begin subs root t d = subst (λ cs. Denotes subs cs root t) (sym b.types) (tree_more t subs cells (kind.N ∷ []) root d)
 
+module _ {subs : List Subterm} {cells : List TypeCell} {root : ℕ} {m : Checker} (b : Begun cells m) where
   pub whole_ready : Given subs cells root → Ready subs root m
   whole_ready g =
       let n : length (cells_of m) ≡ length cells + 1 = ap length b.types ∙ simp length-append (omega arith) in
       record {
         tree = g.tree;
         env = nobody;
-        denotes = at_begin g.tree g.denotes;
-        knows = knows_nobody;
-        numbered = number_is;
+        denotes = at_begin b subs root g.tree g.denotes;
+        knows = (knows_nobody b);
+        numbered = (number_is b);
         types_room = omega (arith, n, g.few, g.short);
         typing_room = omega (arith, ap length b.typings, g.few);
         context_room = omega (arith, ap length b.context, g.few);
       }
 
   -- refused before the program's own type is asked
-  pub whole_stop : (m' : Checker) (z : Refusal) → Checks subs root m m' (Err z) → (t : Tree ℕ) → Denotes subs cells root t → Spans subs cells 0 root t → numbered t (infer nobody t) ≡ Err z
-  whole_stop m' z h t d sp = ap (numbered t) (h t nobody (at_begin t d) knows_nobody)
+  pub whole_stop : {m' : Checker} {z : Refusal} → Checks subs root m m' (Err z) → (t : Tree ℕ) → Denotes subs cells root t → Spans subs cells 0 root t → numbered t (infer nobody t) ≡ Err z
+  whole_stop h t d sp = ap (numbered t) (h.outcome t nobody (at_begin b subs root t d) (knows_nobody b))
 
-  module _ (m' : Checker) (c : ℕ) (h : Checks subs root m m' (Ok c)) where
+  module _ {m' : Checker} {c : ℕ} (h : Checks subs root m m' (Ok c)) where
     typed : (t : Tree ℕ) → Denotes subs cells root t → Typed subs t nobody m m' c
-    typed t d = h t nobody (at_begin t d) knows_nobody
+    typed t d = h.outcome t nobody (at_begin b subs root t d) (knows_nobody b)
 
     pub whole_type : Given subs cells root → IsType (cells_of m') c
     whole_type g = (type_of nobody g.tree, (typed g.tree g.denotes).denotes)
@@ -128,7 +121,7 @@ module _ (subs : List Subterm) (cells : List TypeCell) (root : ℕ) (m : Checker
           by : (r : Result Facts Refusal) → Limited (judgements nobody t) r → Concludes subs root t (cells_of m') (typings_of m') r
           by (Ok f) l =
               let few : leb (iterators (erase t)) 64 ≡ true = let n = iterators-counted nobody t in let le = l.1 in grind (arith, nat_tests) in
-              (ap (numbered t) (is t d) ∙ ap (λ v. cond v (Ok t) (Err (fault ManyIterators 0))) few, record { denotes = trees_last (typed t d).grown subs t root (at_begin t d); spans = spans_last t d sp; types = all_lists t d; facts = known t f l.0 })
+              (ap (numbered t) (is t d) ∙ ap (λ v. cond v (Ok t) (Err (fault ManyIterators 0))) few, record { denotes = trees_last (typed t d).grown subs t root (at_begin b subs root t d); spans = spans_last t d sp; types = all_lists t d; facts = known t f l.0 })
           by (Err x) l =
               let many : leb (iterators (erase t)) 64 ≡ false = let n = iterators-counted nobody t in let lt = l.1 in grind (arith, nat_tests) in
               ap (numbered t) (is t d) ∙ (ap (λ v. cond v (Ok t) (Err (fault ManyIterators 0))) many ∙ ap Err (sym l.0))
@@ -142,7 +135,3 @@ read_given bytes subs cells root a =
       few = omega (arith, spans_count a.tree subs cells 0 root a.spans, there subs cells root a.tree a.denotes, a.few);
       short = a.few_types;
     }
-
--- what memory holds, as the program gives it
-pub given_out : (bytes : List ℕ) (subs subs' : List Subterm) (cells cells' : List TypeCell) (typings typings' : List Typing) (root root' : ℕ) (f f' : Facts) → subs' ≡ subs → cells' ≡ cells → typings' ≡ typings → root' ≡ root → f' ≡ f → Leaves bytes subs cells typings (Ok (root, f)) → (t : Tree ℕ) × (accepts bytes ≡ Ok t) × Holds subs' cells' typings' root' f' t
-given_out bytes subs subs' cells cells' typings typings' root root' f f' a b c d e h = rw (a, b, c, d, e) h

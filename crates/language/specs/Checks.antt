@@ -1,21 +1,22 @@
 -- What the type checker's memory stands for, and what a check leaves in it. Assumes nothing.
-use Rattle.std.specs.Prelude.{◌≡◌, ℕ, ◌+◌, ◌*◌, ◌≤◌, cond, List, [], ◌∷◌, ◌++◌, length, Ok, Err, vec_items, Result, ◌==◌, slice_index_or}
+use Rattle.std.specs.Prelude.{◌≡◌, ℕ, ◌+◌, ◌*◌, ◌≤◌, List, [], ◌∷◌, ◌++◌, length, Ok, Err, vec_items, Result, slice_index_or}
 use Rattle.calculus.specs.Types.{Ty, N, ◌⊗◌}
 use Rattle.calculus.specs.Terms.{subterms}
 use Rattle.syntax.specs.Trees.{Tree, erase}
 use Rattle.syntax.specs.Program.{DenotesType, Denotes}
 use Rattle.syntax.specs.declared.program.TypeCell.{TypeCell}
-use Rattle.syntax.specs.declared.program.Shape.{Shape}
+use Rattle.syntax.specs.declared.program.TypeCell.TheVariants as cell
 use Rattle.syntax.specs.declared.program.Shape.TheVariants.{Number}
 use Rattle.syntax.specs.declared.program.Subterm.{Subterm}
 use Rattle.syntax.specs.declared.refusal.Refusal.{Refusal}
 use Rattle.syntax.specs.declared.refusal.Fault.TheVariants.{IllTyped}
 use Rattle.language.specs.declared.checker.Checker.{Checker}
-use Rattle.language.specs.declared.checker.Hypothesis.{Hypothesis}
+use Rattle.language.specs.declared.context.Hypothesis.{Hypothesis}
 use Rattle.language.specs.declared.typing.Typing.{Typing}
-use Rattle.language.specs.Infer.{Checked, good, bad, infer, split_rule, Env}
+use Rattle.language.specs.Infer.{Checked, good, bad, within, infer, split_rule, Env}
+use Rattle.language.specs.Hypotheses.{cell_of}
 use Rattle.language.specs.Measures.{type_room}
-use Rattle.language.specs.Judgements.{Judgement, judgements, type_of}
+use Rattle.language.specs.Judgements.{Judgement, judge, judgements, type_of}
 
 abbrev pub cells_of : Checker → List TypeCell
 cells_of m = vec_items m.types.cells
@@ -24,12 +25,14 @@ abbrev pub typings_of : Checker → List Typing
 typings_of m = vec_items m.typings
 
 abbrev pub context_of : Checker → List Hypothesis
-context_of m = vec_items m.context
+context_of m = vec_items m.context.hypotheses
 
--- the cell of a variable's type: its last hypothesis has it, and d has it where there is none
-abbrev pub cell_of : ℕ → List Hypothesis → ℕ → ℕ
-cell_of d [] b = d
-cell_of d (h ∷ hs) b = cell_of (cond (h.binder == b) h.cell d) hs b
+-- the checker as it begins: the annotations' cells, and N
+pub record Begun (cells : List TypeCell) (m : Checker) : Type 0 where
+  pub types : cells_of m ≡ cells ++ (cell.N ∷ [])
+  pub typings : typings_of m ≡ []
+  pub context : context_of m ≡ []
+  pub number : m.number ≡ length cells
 
 -- the context has each variable at its type in e
 abbrev pub Knows : List TypeCell → ℕ → List Hypothesis → Env → Type 0
@@ -62,6 +65,11 @@ abbrev pub Splits : List TypeCell → ℕ → Ty → Result (ℕ × ℕ) Refusal
 Splits cells p A (Ok c) = (B : Ty) × (C : Ty) × (A ≡ B ⊗ C) × DenotesType cells c.0 B × DenotesType cells c.1 C
 Splits cells p A (Err x) = (k : Ty → Ty → Checked) → split_rule p k A ≡ bad x.fault x.place
 
+-- the cell of the type that a rule gives at place p, which is not yet found to be low; or the rule's fault
+abbrev pub Gives : List TypeCell → ℕ → Checked → Result ℕ Refusal → Type 0
+Gives cells p x (Ok c) = (A : Ty) × DenotesType cells c A × (x ≡ within p A)
+Gives cells p x (Err y) = x ≡ bad y.fault y.place
+
 -- sub-term i is a tree under a known context, with room for what its check adds
 pub record Ready (subs : List Subterm) (i : ℕ) (m : Checker) : Type 0 where
   pub tree : Tree ℕ
@@ -72,11 +80,6 @@ pub record Ready (subs : List Subterm) (i : ℕ) (m : Checker) : Type 0 where
   pub types_room : length (cells_of m) + subterms (erase tree) ≤ type_room
   pub typing_room : length (typings_of m) + subterms (erase tree) ≤ 2048
   pub context_room : length (context_of m) + 2 * subterms (erase tree) ≤ 4096
-
--- sub-term i has this place and shape, and can be checked
-pub record Met (subs : List Subterm) (i : ℕ) (m : Checker) (p : ℕ) (s : Shape) : Type 0 where
-  pub at : slice_index_or subs i (record { place = 0; shape = Number 0 }) ≡ record { place = p; shape = s }
-  pub ready : Ready subs i m
 
 -- at most n cells and these typings were added, and all else is as it was
 pub record Grown (n : ℕ) (new : List Typing) (m m' : Checker) : Type 0 where
@@ -101,8 +104,28 @@ Outcome subs t e m m' (Ok c) = Typed subs t e m m' c
 Outcome subs t e m m' (Err x) = infer e t ≡ bad x.fault x.place
 
 -- what checking sub-term i answers and leaves
-abbrev pub Checks : List Subterm → ℕ → Checker → Checker → Result ℕ Refusal → Type 0
-Checks subs i m m' r = (t : Tree ℕ) (e : Env) → Denotes subs (cells_of m) i t → Knows (cells_of m) m.number (context_of m) e → Outcome subs t e m m' r
+pub record Checks (subs : List Subterm) (i : ℕ) (m m' : Checker) (r : Result ℕ Refusal) : Type 0 where
+  pub outcome : (t : Tree ℕ) (e : Env) → Denotes subs (cells_of m) i t → Knows (cells_of m) m.number (context_of m) e → Outcome subs t e m m' r
+
+-- the parts of a tree at p have types, c stands for the type that its rule gives, and the typings of all its sub-terms but itself were added
+pub record Built (subs : List Subterm) (p : ℕ) (t : Tree ℕ) (e : Env) (m m' : Checker) (c : ℕ) : Type 0 where
+  pub type : Ty
+  pub denotes : DenotesType (cells_of m') c type
+  pub infers : infer e t ≡ within p type
+  pub parts : List Judgement
+  pub judged : judgements e t ≡ parts ++ (judge e t ∷ [])
+  pub new : List Typing
+  pub lists : Lists subs (cells_of m') new parts
+  pub grown : Grown (subterms (erase t)) new m m'
+
+-- what checking a tree's parts and asking its rule answers and leaves
+abbrev pub Ruled : List Subterm → ℕ → Tree ℕ → Env → Checker → Checker → Result ℕ Refusal → Type 0
+Ruled subs p t e m m' (Ok c) = Built subs p t e m m' c
+Ruled subs p t e m m' (Err x) = infer e t ≡ bad x.fault x.place
+
+-- the same of sub-term i
+pub record Infers (subs : List Subterm) (i : ℕ) (m m' : Checker) (r : Result ℕ Refusal) : Type 0 where
+  pub outcome : (t : Tree ℕ) (e : Env) → Denotes subs (cells_of m) i t → Knows (cells_of m) m.number (context_of m) e → Ruled subs (slice_index_or subs i (record { place = 0; shape = Number 0 })).place t e m m' r
 
 -- a typing of sub-term i was added, unless it was refused, and nothing else changed
 abbrev pub Noted : ℕ → Checker → Checker → Result ℕ Refusal → Type 0

@@ -1,17 +1,17 @@
 // A whole program: its sub-terms' types, its own type, and its counts.
-ghost use Rattle.std.specs.Prelude.{◌≡◌, ℕ, ◌≤◌, List, [], ◌∷◌, ◌++◌, length};
+ghost use Rattle.std.specs.Prelude.{ℕ, ◌≤◌, List, length};
 ghost use Rattle.calculus.specs.Types.{Ty};
-ghost use Rattle.syntax.specs.declared.program.TypeCell.TheVariants.{N};
 ghost use Rattle.syntax.specs.Trees.{Tree};
 ghost use Rattle.syntax.specs.Program.{DenotesType, Denotes};
 ghost use Rattle.syntax.specs.Answer.{Spans};
 ghost use Rattle.language.specs.Measures.{IsType};
 ghost use Rattle.language.specs.Judgements.{Judgement, Low};
-ghost use Rattle.language.specs.Checks.{cells_of, typings_of, context_of, Lists};
+ghost use Rattle.language.specs.Checks.{cells_of, typings_of, Begun, Lists};
 ghost use Rattle.language.specs.Counts.{Countable, Limited};
 ghost use Rattle.language.specs.Accepts.{Numbers, Given, Concludes};
 
 use crate::checker::Checker;
+use crate::context::Context;
 use crate::counts::Facts;
 use crate::facts::facts;
 use crate::table::TypeTable;
@@ -21,15 +21,13 @@ use syntax::refusal::{Fault, Refusal};
 
 const SUBTERMS: usize = 2048;
 
-const HYPOTHESES: usize = 4096;
-
 const ITERATORS: usize = 64;
 
 impl Checker {
-    pub fn new(heap: Global) -> Result<Checker, AllocError> {
+    pub(crate) fn new(heap: Global) -> Result<Checker, AllocError> {
         let types = TypeTable::new(heap)?;
         let typings = Vec::with_capacity(heap, SUBTERMS)?;
-        let context = Vec::with_capacity(heap, HYPOTHESES)?;
+        let context = Context::new(heap)?;
         Ok(Checker {
             types,
             typings,
@@ -41,10 +39,7 @@ impl Checker {
     // Begins anew, with these type cells and one more for N.
     fn begin(&mut self, cells: &[TypeCell])
         requires { length cells.now ≤ 2048 }
-        ensures cells { cells_of self.new ≡ cells.now ++ (N ∷ []) }
-        ensures typings { typings_of self.new ≡ [] }
-        ensures context { context_of self.new ≡ [] }
-        ensures number { self.new.number ≡ length cells.now }
+        ensures { Begun cells.now self.new }
     {
         self.typings.clear();
         self.context.clear();
@@ -83,7 +78,7 @@ impl Checker {
     }
 
     // Has the program types, is its own N, and are its iterators few?
-    pub fn conclude(
+    pub(crate) fn conclude(
         &mut self,
         subs: &[Subterm],
         cells: &[TypeCell],

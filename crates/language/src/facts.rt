@@ -4,62 +4,39 @@ ghost use Rattle.language.specs.Judgements.{Judgement, Low};
 ghost use Rattle.language.specs.Checks.{Lists};
 ghost use Rattle.language.specs.Counts.{Countable, Counts, iterator_at, successor_at, share_at};
 
-use crate::check::subterm_at;
 use crate::counts::Facts;
 use crate::measure::Measure;
 use crate::table::TypeTable;
 use crate::typing::Typing;
 use syntax::program::{Shape, Subterm};
 
-fn iterator_at(shape: Shape) -> usize
-    ensures { result ≡ iterator_at shape }
+// What a sub-term adds to the iterators and the successor signs, and to the weight: the Ns of its type, or none at a let.
+fn added(shape: Shape, measure: Measure) -> (usize, usize, u128)
+    ensures { result ≡ (iterator_at shape, successor_at shape, share_at shape measure) }
 {
     match shape {
-        Shape::Iterator { .. } => 1,
-        _ => 0,
+        Shape::Iterator { .. } => (1, 0, measure.naturals),
+        Shape::Successor(_) => (0, 1, measure.naturals),
+        Shape::Let { .. } => (0, 0, 0),
+        _ => (0, 0, measure.naturals),
     }
 }
 
-fn successor_at(shape: Shape) -> usize
-    ensures { result ≡ successor_at shape }
-{
-    match shape {
-        Shape::Successor(_) => 1,
-        _ => 0,
-    }
-}
-
-// The Ns of a sub-term's type; a let adds none.
-fn share_at(shape: Shape, measure: Measure) -> u128
-    ensures { result ≡ share_at shape measure }
-{
-    match shape {
-        Shape::Let { .. } => 0,
-        _ => measure.naturals,
-    }
-}
-
-pub fn facts(subs: &[Subterm], typings: &[Typing], types: &TypeTable) -> Facts
+// The project prescribes this form, a loop over the slice of typed sub-terms.
+pub(crate) fn facts(subs: &[Subterm], typings: &[Typing], types: &TypeTable) -> Facts
     requires { Countable subs.now types.now.cells.items typings.now }
     ensures { (js : List Judgement) → Lists subs.now types.now.cells.items typings.now js → Low js → Counts js result }
 {
-    let mut facts = Facts {
-        subterms: 0,
-        iterators: 0,
-        successors: 0,
-        height: 0,
-        weight: 0,
-    };
+    let mut facts = Facts::default();
     for typing in typings {
-        let shape = subterm_at(subs, typing.subterm).shape;
+        let shape = subs[typing.subterm].shape;
         let measure = types.measure(typing.cell);
-        facts = Facts {
-            subterms: facts.subterms + 1,
-            iterators: facts.iterators + iterator_at(shape),
-            successors: facts.successors + successor_at(shape),
-            height: facts.height.max(measure.height),
-            weight: facts.weight + share_at(shape, measure),
-        };
+        let (iterators, successors, weight) = added(shape, measure);
+        facts.subterms += 1;
+        facts.iterators += iterators;
+        facts.successors += successors;
+        facts.height = facts.height.max(measure.height);
+        facts.weight += weight;
     }
     facts
 }

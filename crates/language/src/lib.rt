@@ -4,11 +4,12 @@
 mod check;
 mod checker;
 mod conclude;
+mod context;
 pub mod counts;
 mod facts;
 mod measure;
 pub mod program;
-pub mod refusals;
+mod rules;
 mod table;
 mod types;
 pub mod typing;

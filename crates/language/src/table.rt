@@ -4,17 +4,18 @@ ghost use Rattle.syntax.specs.declared.program.TypeCell.TheVariants.{N};
 ghost use Rattle.language.specs.Measures.{type_room, number, HeightsOf, NaturalsOf, IsType, SameTypes};
 
 use crate::measure::Measure;
-use crate::types::{cell_at, measure_of, measured, same};
+use crate::types::{measure_of, measured, same};
 use std::alloc::{AllocError, Global};
 use syntax::program::TypeCell;
 
 // Cells for the annotations of a text, for one new type of each sub-term, and for N.
 const TYPE_ROOM: usize = 4097;
 
+// Two vectors, and not one of pairs, since a checked program lends its cells alone, as one slice that stands in memory.
 #[derive(Drop)]
-pub struct TypeTable {
-    pub cells: Vec<TypeCell>,
-    pub measures: Vec<Measure>,
+pub(crate) struct TypeTable {
+    pub(crate) cells: Vec<TypeCell>,
+    pub(crate) measures: Vec<Measure>,
     ghost cells_fit: { type_room ≤ vec_capacity cells },
     ghost measures_fit: { type_room ≤ vec_capacity measures },
     ghost long: { length measures.items ≡ length cells.items },
@@ -23,7 +24,7 @@ pub struct TypeTable {
 }
 
 impl TypeTable {
-    pub fn new(heap: Global) -> Result<TypeTable, AllocError>
+    pub(crate) fn new(heap: Global) -> Result<TypeTable, AllocError>
         ensures { IfOk result (λ t. t.cells.items ≡ []) }
     {
         let cells = Vec::with_capacity(heap, TYPE_ROOM)?;
@@ -31,7 +32,7 @@ impl TypeTable {
         Ok(TypeTable { cells, measures })
     }
 
-    pub fn clear(&mut self)
+    pub(crate) fn clear(&mut self)
         ensures { self.new.cells.items ≡ [] }
     {
         self.cells.clear();
@@ -39,7 +40,7 @@ impl TypeTable {
     }
 
     // Adds a cell, and gives its number.
-    pub fn add(&mut self, cell: TypeCell) -> usize
+    pub(crate) fn add(&mut self, cell: TypeCell) -> usize
         requires { length self.old.cells.items < type_room }
         ensures place { result ≡ length self.old.cells.items }
         ensures cells { self.new.cells.items ≡ self.old.cells.items ++ (cell ∷ []) }
@@ -52,7 +53,7 @@ impl TypeTable {
     }
 
     // Adds cells, in their order.
-    pub fn load(&mut self, cells: &[TypeCell])
+    pub(crate) fn load(&mut self, cells: &[TypeCell])
         requires { length self.old.cells.items + length cells.now ≤ type_room }
         ensures { self.new.cells.items ≡ self.old.cells.items ++ cells.now }
     {
@@ -61,20 +62,20 @@ impl TypeTable {
         }
     }
 
-    pub fn measure(&self, i: usize) -> Measure
+    pub(crate) fn measure(&self, i: usize) -> Measure
         ensures { result ≡ slice_index_or self.now.measures.items i number }
     {
         measure_of(&self.measures, i)
     }
 
-    pub fn cell(&self, i: usize) -> TypeCell
+    pub(crate) fn cell(&self, i: usize) -> TypeCell
         requires { IsType self.now.cells.items i }
         ensures { slice_index_or self.now.cells.items i N ≡ result }
     {
-        cell_at(&self.cells, i)
+        self.cells[i]
     }
 
-    pub fn same(&self, i: usize, j: usize) -> bool
+    pub(crate) fn same(&self, i: usize, j: usize) -> bool
         requires left { IsType self.now.cells.items i }
         requires right { IsType self.now.cells.items j }
         ensures { SameTypes self.now.cells.items i j result }

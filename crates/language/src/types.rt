@@ -1,6 +1,5 @@
 // Types in memory: compared, measured and added to.
-ghost use Rattle.std.specs.Prelude.{◌≡◌, ◌<◌, length, slice_index_or};
-ghost use Rattle.syntax.specs.declared.program.TypeCell.TheVariants.{N};
+ghost use Rattle.std.specs.Prelude.{◌≡◌, slice_index_or};
 ghost use Rattle.language.specs.Measures.{joined, number, measure_at, IsType, SameTypes};
 
 use crate::measure::Measure;
@@ -22,18 +21,15 @@ fn join(a: Measure, b: Measure) -> Measure
     }
 }
 
-pub fn measure_of(measures: &[Measure], i: usize) -> Measure
+// A cell that is not in the table is measured as N.
+pub(crate) fn measure_of(measures: &[Measure], i: usize) -> Measure
     ensures { result ≡ slice_index_or measures.now i number }
 {
-    if i < measures.len() {
-        measures[i]
-    } else {
-        NUMBER
-    }
+    measures.get(i).copied().unwrap_or(NUMBER)
 }
 
 // The measure of a cell, whose parts stand in the table.
-pub fn measured(measures: &[Measure], cell: TypeCell) -> Measure
+pub(crate) fn measured(measures: &[Measure], cell: TypeCell) -> Measure
     ensures { result ≡ measure_at measures.now cell }
 {
     match cell {
@@ -44,31 +40,19 @@ pub fn measured(measures: &[Measure], cell: TypeCell) -> Measure
     }
 }
 
-pub fn cell_at(cells: &[TypeCell], i: usize) -> TypeCell
-    requires { i < length cells.now }
-    ensures { slice_index_or cells.now i N ≡ result }
-{
-    cells[i]
-}
-
-// Two types are equal when they have the same sign and equal parts.
-pub fn same(cells: &[TypeCell], i: usize, j: usize) -> bool
+// Two types are equal when they have the same sign and equal parts, wherever their cells stand.
+// The project prescribes this form, a recursion on cells whose numbers fall.
+pub(crate) fn same(cells: &[TypeCell], i: usize, j: usize) -> bool
     requires left { IsType cells.now i }
     requires right { IsType cells.now j }
     ensures { SameTypes cells.now i j result }
 {
-    match cell_at(cells, i) {
-        TypeCell::N => match cell_at(cells, j) {
-            TypeCell::N => true,
-            _ => false,
-        },
-        TypeCell::Arrow(a, b) => match cell_at(cells, j) {
-            TypeCell::Arrow(c, d) => same(cells, a, c) && same(cells, b, d),
-            _ => false,
-        },
-        TypeCell::Product(a, b) => match cell_at(cells, j) {
-            TypeCell::Product(c, d) => same(cells, a, c) && same(cells, b, d),
-            _ => false,
-        },
+    match (cells[i], cells[j]) {
+        (TypeCell::N, TypeCell::N) => true,
+        (TypeCell::Arrow(a, b), TypeCell::Arrow(c, d)) => same(cells, a, c) && same(cells, b, d),
+        (TypeCell::Product(a, b), TypeCell::Product(c, d)) => {
+            same(cells, a, c) && same(cells, b, d)
+        }
+        _ => false,
     }
 }

@@ -30,10 +30,11 @@ use Rattle.network.specs.declared.part.Part.{Part}
 use Rattle.network.specs.declared.part.Next.{Next}
 use Rattle.network.specs.Parts.{Linear, Holds}
 use Rattle.network.specs.Plan.{Planned}
-use Rattle.network.specs.Laying.{LaidOut}
-use Rattle.network.specs.Wiring.{starting, Below, Wirable, Wired}
+use Rattle.network.specs.Laying.{Layable, LaidOut}
+use Rattle.network.specs.Wiring.{Table, starting, Below, Wirable, Wired}
 use Rattle.network.specs.Building.{term_of, Stored, Trusted, Drawable, Drawn}
 use Rattle.network.proofs.Sizes.{nodes_few}
+use Rattle.network.proofs.Gathered.{below_long}
 use Rattle.network.proofs.Texts.{spelled_below, sizes, numbers, last_of}
 
 -- a closed derivation
@@ -104,25 +105,28 @@ module _ (text : List ℕ) (t : Tree Name) (a : Accepted text t) where
 pub laid_all : (t : Term) (r : Next) (cells c₁ c₂ : List Cell) → c₁ ≡ set cells 0 (cell_of (bare (Root, 0))) → LaidOut t (record { node = 1; iterator = 1 }) r c₁ c₂ → c₂ ≡ laid (all_made t) 0 cells
 laid_all t r cells c₁ c₂ e l = l.written ∙ ap (laid (made t 1) 1) e
 
+pub layable_all : {parts parts' : List Part} {i places size size' : ℕ} {t : Term} → Drawable parts i places size t → parts' ≡ parts → size' ≡ size → Layable parts' i (record { node = 1; iterator = 1 }) size' t
+layable_all d p e = record { holds = rw p d.holds; room = omega (arith, d.room, e); few = omega (arith, d.few) }
+
 -- a closed program is wired with no variable in force
-pub wirable_all : (parts : List Part) (i size size' : ℕ) (starts : List ℕ) (t : Term) → Drawable parts i (length starts) size t → size' ≡ size → Wirable parts i 1 0 starts size' t
-wirable_all parts i size size' starts t d e =
+pub wirable_all : {parts parts' : List Part} {i places size size' : ℕ} {starts : Table} {t : Term} → Drawable parts i places size t → parts' ≡ parts → length starts ≡ places → size' ≡ size → Wirable parts' i 1 0 starts size' t
+wirable_all {i = i} {size' = size'} {starts = starts} {t = t} d p l e =
     let n = 1 + nodes t in
     let few : 3 * n ≤ 4294967295 = omega (arith, nodes_few t d.small, d.small) in
     record {
       n = n;
       ready = record {
         numbered = record { within = omega (arith, d.room, e); ports = few };
-        holds = d.holds;
+        holds = rw p d.holds;
         linear = linear d.typed;
         small = d.small;
-        below = d.below;
+        below = below_long t _ _ l d.below;
         started = subst (EachVariable (λ x. starting starts x < 3 * n)) (sym (closed d.typed)) tt;
       };
       room = omega arith;
       rooted = omega arith;
     }
 
-pub drawn_all : (t : Term) (r : ℕ) (starts starts' : List ℕ) (cells c₂ c₃ : List Cell) → Typed [] t N → c₂ ≡ laid (all_made t) 0 cells → Wired t 1 0 r starts starts' c₂ c₃ → Drawn t cells c₃
+pub drawn_all : (t : Term) (r : ℕ) (starts starts' : Table) (cells c₂ c₃ : List Cell) → Typed [] t N → c₂ ≡ laid (all_made t) 0 cells → Wired t 1 0 r starts starts' c₂ c₃ → Drawn t cells c₃
 drawn_all t r starts starts' cells c₂ c₃ d e w =
     w.written ∙ (ap (λ ws. wired_cells ws c₂) (local t 1 0 (starting starts) nowhere (subst (EachVariable (Same (starting starts) nowhere)) (sym (closed d)) tt)) ∙ ap (wired_cells (all_wires t)) e)

@@ -1,56 +1,58 @@
 -- Variables pass their Transfer nodes one after another.
-use Rattle.std.proofs.Common.{◌≡◌, ℕ, suc, ◌+◌, ◌*◌, ◌<◌, Bool, true, false, cond, eqb, List, [], ◌∷◌, ◌++◌, length, set, sym, refl, ap, ◌∙◌, arith, length-set}
+use Rattle.std.proofs.Common.{◌≡◌, ℕ, suc, ◌+◌, ◌*◌, ◌<◌, Bool, true, false, cond, eqb, Some, Option, List, [], ◌∷◌, ◌++◌, length, set, sym, refl, ap, ◌∙◌, arith, length-set}
+use Rattle.std.specs.Option.{unwrap_or}
 use Rattle.std.proofs.lemmas.Bool.{eqb-true}
 use Rattle.cells.specs.declared.kinds.Cell.{Cell}
+use Rattle.cells.specs.Ports.{absent}
 use Rattle.calculus.specs.Terms.{Term, var, num, succ, lam, app, pair, split, iter, free, without, nodes}
 use Rattle.geometry.specs.Network.{l1, l2, put, EachVariable, crossings, entered}
 use Rattle.geometry.specs.Memory.{link_cell, wired_cells}
 use Rattle.geometry.specs.Derivations.{Apart}
 use Rattle.geometry.proofs.Local.{each_map, Same, same-entered, same-crossings}
 use Rattle.network.specs.declared.part.Part.{Part}
-use Rattle.network.specs.Wiring.{starting, in_force, Below, Numbered, Crossable, Crossed, Passable}
-use Rattle.network.proofs.Gathered.{start_same, start_other, in_force_all}
+use Rattle.network.specs.Wiring.{Table, starting, in_force, Below, Numbered, Crossable, Crossed, Passable}
+use Rattle.network.proofs.Gathered.{start_same, starts_other, in_force_all}
 use Rattle.network.proofs.Uses.{distinct}
 
 -- a write to the table starts one variable elsewhere
-pub start_put : (s : List ℕ) (x p : ℕ) → x < length s → (y : ℕ) → starting (set s x p) y ≡ put (starting s) x p y
+pub start_put : (s : Table) (x p : ℕ) → x < length s → (y : ℕ) → starting (set s x (Some p)) y ≡ put (starting s) x p y
 start_put s x p l y = go (eqb x y) refl
   where
-    go : (b : Bool) → eqb x y ≡ b → starting (set s x p) y ≡ put (starting s) x p y
-    go true e = rw (e, ← (eqb-true x y e)) (start_same s x p l)
-    go false e = rw e (start_other s x y p e)
+    go : (b : Bool) → eqb x y ≡ b → starting (set s x (Some p)) y ≡ put (starting s) x p y
+    go true e = rw (e, ← (eqb-true x y e)) (ap (λ q. unwrap_or q absent) (start_same s x (Some p) l))
+    go false e = rw e (starts_other s x y (Some p) e)
 
 -- the others start where they did
-apart_starts : (s : List ℕ) (x p : ℕ) (xs : List ℕ) → Apart x xs → EachVariable (Same (starting (set s x p)) (starting s)) xs
+apart_starts : (s : Table) (x : ℕ) (p : Option ℕ) (xs : List ℕ) → Apart x xs → EachVariable (Same (starting (set s x p)) (starting s)) xs
 apart_starts s x p [] h = tt
-apart_starts s x p (y ∷ ys) h = (start_other s x y p h.0, apart_starts s x p ys h.1)
+apart_starts s x p (y ∷ ys) h = (starts_other s x y p h.0, apart_starts s x p ys h.1)
 
-moved : (n : ℕ) (s : List ℕ) (x p : ℕ) (xs : List ℕ) → Apart x xs → EachVariable (λ y. starting s y < 3 * n) xs → EachVariable (λ y. starting (set s x p) y < 3 * n) xs
+moved : (n : ℕ) (s : Table) (x : ℕ) (p : Option ℕ) (xs : List ℕ) → Apart x xs → EachVariable (λ y. starting s y < 3 * n) xs → EachVariable (λ y. starting (set s x p) y < 3 * n) xs
 moved n s x p [] a h = tt
-moved n s x p (y ∷ ys) a h = (rw (start_other s x y p a.0) h.0, moved n s x p ys a.1 h.1)
+moved n s x p (y ∷ ys) a h = (rw (starts_other s x y p a.0) h.0, moved n s x p ys a.1 h.1)
 
-module _ (x : ℕ) (xs : List ℕ) (j : ℕ) (s : List ℕ) (size : ℕ) (h : Crossable (x ∷ xs) j s size) where
+module _ (x : ℕ) (xs : List ℕ) (j : ℕ) (s : Table) (size : ℕ) (h : Crossable (x ∷ xs) j s size) where
   pub placed : x < length s
   placed = h.placed.0
 
-  pub crossable_rest : (j' size' : ℕ) (s' : List ℕ) → j' ≡ suc j → size' ≡ size → s' ≡ set s x (l2 j) → Crossable xs j' s' size'
+  pub crossable_rest : (j' size' : ℕ) (s' : Table) → j' ≡ suc j → size' ≡ size → s' ≡ set s x (Some (l2 j)) → Crossable xs j' s' size'
   crossable_rest j' size' s' e f g =
       rw (e, f, g) (record {
         n = h.n;
         numbered = h.numbered;
         room = omega (arith, h.room);
-        placed = each_map (λ y. y < length s) (λ y. y < length (set s x (l2 j))) (λ y l. omega (arith, l, length-set s x (l2 j))) xs h.placed.1;
-        started = moved h.n s x (l2 j) xs h.distinct.0 h.started.1;
+        placed = each_map (λ y. y < length s) (λ y. y < length (set s x (Some (l2 j)))) (λ y l. omega (arith, l, length-set s x (Some (l2 j)))) xs h.placed.1;
+        started = moved h.n s x (Some (l2 j)) xs h.distinct.0 h.started.1;
         distinct = h.distinct.1;
       })
 
-  pub wired_rest : (j' : ℕ) (s' : List ℕ) (cs cs' : List Cell) → j' ≡ suc j → s' ≡ set s x (l2 j) → cs' ≡ link_cell (link_cell cs (starting s x) (l1 j)) (l1 j) (starting s x) → wired_cells (crossings xs j' (starting s')) cs' ≡ wired_cells (crossings (x ∷ xs) j (starting s)) cs
+  pub wired_rest : (j' : ℕ) (s' : Table) (cs cs' : List Cell) → j' ≡ suc j → s' ≡ set s x (Some (l2 j)) → cs' ≡ link_cell (link_cell cs (starting s x) (l1 j)) (l1 j) (starting s x) → wired_cells (crossings xs j' (starting s')) cs' ≡ wired_cells (crossings (x ∷ xs) j (starting s)) cs
   wired_rest j' s' cs cs' e f g =
-      rw (e, f, g) (ap (λ ws. wired_cells ws (link_cell (link_cell cs (starting s x) (l1 j)) (l1 j) (starting s x))) (same-crossings xs (suc j) (starting (set s x (l2 j))) (starting s) (apart_starts s x (l2 j) xs h.distinct.0)))
+      rw (e, f, g) (ap (λ ws. wired_cells ws (link_cell (link_cell cs (starting s x) (l1 j)) (l1 j) (starting s x))) (same-crossings xs (suc j) (starting (set s x (Some (l2 j)))) (starting s) (apart_starts s x (Some (l2 j)) xs h.distinct.0)))
 
-  pub entered_rest : (j' : ℕ) (s' : List ℕ) → j' ≡ suc j → s' ≡ set s x (l2 j) → (y : ℕ) → entered xs j' (starting s') y ≡ entered (x ∷ xs) j (starting s) y
+  pub entered_rest : (j' : ℕ) (s' : Table) → j' ≡ suc j → s' ≡ set s x (Some (l2 j)) → (y : ℕ) → entered xs j' (starting s') y ≡ entered (x ∷ xs) j (starting s) y
   entered_rest j' s' e f y =
-      rw (e, f) (same-entered xs (suc j) (starting (set s x (l2 j))) (put (starting s) x (l2 j)) (y ∷ []) (start_put s x (l2 j) h.placed.0 y, tt)).0
+      rw (e, f) (same-entered xs (suc j) (starting (set s x (Some (l2 j)))) (put (starting s) x (l2 j)) (y ∷ []) (start_put s x (l2 j) h.placed.0 y, tt)).0
 
 -- a wire, between ports known by other names
 pub joined_at : (cs cs' : List Cell) (p q p' q' : ℕ) → cs' ≡ link_cell (link_cell cs p q) q p → p ≡ p' → q ≡ q' → cs' ≡ link_cell (link_cell cs p' q') q' p'
@@ -82,10 +84,10 @@ placed-free n (iter t u v) b =
     each_append (λ y. y < n) (free t) (free u ++ free v) (placed-free n t b.0) (each_append (λ y. y < n) (free u) (free v) (placed-free n u b.1) (placed-free n v b.2))
 
 -- the uses gathered are the free ones
-pub gathered : (n size : ℕ) (s us vs : List ℕ) (t : Term) → Numbered n size → EachVariable (λ x. starting s x < 3 * n) (free t) → us ≡ [] → vs ≡ us ++ in_force s (free t) → vs ≡ free t
+pub gathered : (n size : ℕ) (s : Table) (us vs : List ℕ) (t : Term) → Numbered n size → EachVariable (λ x. starting s x < 3 * n) (free t) → us ≡ [] → vs ≡ us ++ in_force s (free t) → vs ≡ free t
 gathered n size s us vs t h g e f = f ∙ (ap (λ q. q ++ in_force s (free t)) e ∙ in_force_all n s (free t) h.ports g)
 
-pub crossable : (parts : List Part) (i k first : ℕ) (s : List ℕ) (size : ℕ) (t : Term) → Passable parts i k s size t → first ≡ k + nodes t → Crossable (free t) first s size
+pub crossable : (parts : List Part) (i k first : ℕ) (s : Table) (size : ℕ) (t : Term) → Passable parts i k s size t → first ≡ k + nodes t → Crossable (free t) first s size
 crossable parts i k first s size t h e =
     record {
       n = h.n;
@@ -97,5 +99,5 @@ crossable parts i k first s size t h e =
     }
 
 -- the same variables from the same table
-pub crossed_by : {us us' : List ℕ} {j j' : ℕ} {s s' r : List ℕ} {cs cs' : List Cell} → us ≡ us' → j ≡ j' → s ≡ s' → Crossed us j s r cs cs' → Crossed us' j' s' r cs cs'
+pub crossed_by : {us us' : List ℕ} {j j' : ℕ} {s s' r : Table} {cs cs' : List Cell} → us ≡ us' → j ≡ j' → s ≡ s' → Crossed us j s r cs cs' → Crossed us' j' s' r cs cs'
 crossed_by {us} {us'} {j} {j'} {s} {s'} {r} {cs} {cs'} e f g h = rw (sym e, sym f, sym g) h

@@ -1,5 +1,8 @@
 -- The nodes of a part are those of its construct and then those of its own parts, laid one behind the other.
-use Rattle.std.proofs.Common.{◌≡◌, ℕ, suc, ◌+◌, ◌-◌, ◌<◌, ◌≤◌, ◌⊎◌, List, [], ◌∷◌, ◌++◌, length, get_or, set, replicate, sym, refl, ap, ◌∙◌, subst, inl, inr, arith, length-append}
+use Rattle.std.proofs.Common.{◌≡◌, ℕ, zero, suc, ◌+◌, ◌-◌, ◌<◌, ◌≤◌, ◌⊎◌, List, [], ◌∷◌, ◌++◌, length, get_or, take, drop, set, replicate, sym, refl, ap, ◌∙◌, subst, inl, inr, append_assoc, arith, length-append, length-set}
+use Rattle.std.proofs.lemmas.List.{take-append-drop, drop-set-lt}
+use Rattle.std.proofs.Math.Seq.{take-suc-set}
+use borrow.Rule.Slice.PartMut.{put_mid, mid_of, mid_len, Post-is}
 use lib.ListN.{length-replicate}
 use Rattle.cells.specs.declared.kinds.Cell.{Cell}
 use Rattle.cells.specs.declared.kinds.Kind.TheVariants.{Transfer}
@@ -14,147 +17,170 @@ use Rattle.network.specs.declared.part.Part.{Part}
 use Rattle.network.specs.declared.part.Count.{Count}
 use Rattle.network.specs.declared.part.Next.{Next}
 use Rattle.network.specs.Parts.{no_part, Holds}
-use Rattle.network.specs.Laying.{own_nodes, own_iterators, LaidOut}
-use Rattle.network.proofs.Opened.{held, as_variable, as_number, as_successor, as_function, as_application, as_pair, as_let, as_iterator}
+use Rattle.network.specs.Laying.{own_nodes, own_iterators, Layable, LaidNodes, LaidOut}
+use Rattle.network.proofs.Opened.{held, shaped}
 
--- these nodes were laid from k on, and n is the number after them
-pub record Span (ms : List Made) (k n : ℕ) (cs cs' : List Cell) : Type 0 where
-  pub written : cs' ≡ laid ms k cs
-  pub next : n ≡ k + length ms
+-- nodes laid one list after another
+joined : {l m : List Made} {i j : ℕ} {next mid r : Next} {a b c : List Cell} → LaidNodes l i next mid a b → LaidNodes m j mid r b c → LaidNodes (l ++ m) (i + j) next r a c
+joined {l} {m} {i} {j} {next} {mid} {r} {a} {b} {c} p q =
+    record {
+      written = q.written ∙ (ap (laid m mid.node) p.written ∙ sym (laid-append l m next.node mid.node a p.node));
+      node = omega (arith, p.node, q.node, length-append l m);
+      iterator = omega (arith, p.iterator, q.iterator);
+    }
 
-pub joined : (l m : List Made) (k j n : ℕ) (a b c : List Cell) → Span l k j a b → Span m j n b c → Span (l ++ m) k n a c
-joined l m k j n a b c p q =
-    record { written = q.written ∙ (ap (laid m j) p.written ∙ sym (laid-append l m k j a p.next)); next = omega (arith, p.next, q.next, length-append l m) }
-
-pub span_of : (t : Term) (next r : Next) (a b : List Cell) → LaidOut t next r a b → Span (made t next.iterator) next.node r.node a b
-span_of t next r a b l = record { written = l.written; next = omega (arith, l.node, made-length t next.iterator) }
-
-pub laid_out : (t : Term) (next r : Next) (a b : List Cell) → Span (made t next.iterator) next.node r.node a b → r.iterator ≡ next.iterator + iterators t → LaidOut t next r a b
-laid_out t next r a b s e = record { written = s.written; node = omega (arith, s.next, made-length t next.iterator); iterator = e }
+-- the same nodes and as many iterators, known otherwise
+known : {l m : List Made} {i j : ℕ} {next r : Next} {a b : List Cell} → LaidNodes m j next r a b → l ≡ m → i ≡ j → LaidNodes l i next r a b
+known p e f = rw (e, f) p
 
 -- a Transfer node for each variable
 transfers_are : (n : ℕ) (xs : List ℕ) → transfers n xs ≡ replicate (length xs) (Transfer, n)
 transfers_are n [] = refl
 transfers_are n (x ∷ xs) = ap (λ l. (Transfer, n) ∷ l) (transfers_are n xs)
 
-pub span_transfers : (n u k r : ℕ) (xs : List ℕ) (a b : List Cell) → u ≡ length xs → b ≡ laid (replicate u (Transfer, n)) k a → r ≡ k + u → Span (transfers n xs) k r a b
-span_transfers n u k r xs a b e w z =
-    rw (transfers_are n xs) (record { written = w ∙ ap (λ v. laid (replicate v (Transfer, n)) k a) e; next = omega (arith, e, z, length-replicate {A = Made} (length xs) (Transfer, n)) })
+transfers_laid : (n : ℕ) {u : ℕ} {next r : Next} {a b : List Cell} (xs : List ℕ) → u ≡ length xs → LaidNodes (replicate u (Transfer, n)) 0 next r a b → LaidNodes (transfers n xs) 0 next r a b
+transfers_laid n xs e w = known w (transfers_are n xs ∙ ap (λ v. replicate v (Transfer, n)) (sym e)) refl
 
--- one more of them
-pub transfers_more : (m : Made) (u e k : ℕ) (a : List Cell) → k < e → laid (replicate (e - (k + 1)) m) (k + 1) (set a k (cell_of (bare m))) ≡ laid (replicate (e - k) m) k a
-transfers_more m u e k a h =
-    let z : e - k ≡ suc (e - (k + 1)) = omega arith in
-    let s : k + 1 ≡ suc k = omega arith in
-    rw (z, s) refl
+-- the same node in each of u cells, which are what is written in their place
+laid-replicate : (m : Made) (u k : ℕ) (cs : List Cell) → k + u ≤ length cs → laid (replicate u m) k cs ≡ take k cs ++ (replicate u (cell_of (bare m)) ++ drop (k + u) cs)
+laid-replicate m zero k cs h = let e : k + 0 ≡ k = omega arith in rw e (sym (take-append-drop k cs))
+laid-replicate m (suc u) k cs h =
+    let x = cell_of (bare m) in
+    let e : suc k + u ≡ k + suc u = omega arith in
+    let b : k < suc k + u = omega arith in
+    let l : k < length cs = omega arith in
+    laid-replicate m u (suc k) (set cs k x) (omega (arith, length-set cs k x))
+    ∙ rw (take-suc-set cs k x l, drop-set-lt (suc k + u) cs k x b, e) (append_assoc (take k cs) (x ∷ []) (replicate u x ++ drop (k + suc u) cs))
 
--- what a term of one, two or three parts makes
-pub record One (parts : List Part) (i j : ℕ) (s : Shape) (t : Term) : Type 0 where
+pub filled : (m : Made) (u k e : ℕ) (cs ys : List Cell) → e ≡ k + u → e ≤ length cs → ys ≡ replicate (length (mid_of k (e - k) cs)) (cell_of (bare m)) → put_mid k (e - k) cs ys ≡ laid (replicate u m) k cs
+filled m u k e cs ys z h f =
+    let b : k ≤ e = omega arith in
+    let n : length (mid_of k (e - k) cs) ≡ u = mid_len k e cs h ∙ omega arith in
+    rw (Post-is k e cs b, f, n, z) (sym (laid-replicate m u k cs (omega arith)))
+
+-- what is laid of a construct of no, one, two or three parts: its own nodes, then the parts one behind the other. Each can be laid, and then the whole was
+abbrev OwnLaid : Shape → Next → Next → List Cell → List Cell → Type 0
+OwnLaid s = LaidNodes (own_nodes s) (own_iterators s)
+
+pub record One (parts : List Part) (i j : ℕ) (s : Shape) (next : Next) (size : ℕ) (t : Term) : Type 0 where
   pub a : Term
   pub less : j < i
-  pub part : Holds parts j a
-  pub nodes_are : nodes t ≡ length (own_nodes s) + nodes a
-  pub iterators_are : iterators t ≡ own_iterators s + iterators a
-  pub made_are : (n m : ℕ) → m ≡ n + own_iterators s → made t n ≡ own_nodes s ++ made a m
+  pub part : {own : Next} {size' : ℕ} {cs c₁ : List Cell} → OwnLaid s next own cs c₁ → size' ≡ size → Layable parts j own size' a
+  pub whole : {own r : Next} {cs c₁ c₂ : List Cell} → OwnLaid s next own cs c₁ → LaidOut a own r c₁ c₂ → LaidOut t next r cs c₂
 
-pub record Two (parts : List Part) (i j k : ℕ) (s : Shape) (t : Term) : Type 0 where
+pub record Two (parts : List Part) (i j k : ℕ) (s : Shape) (next : Next) (size : ℕ) (t : Term) : Type 0 where
   pub a : Term
   pub b : Term
-  pub less : j < i
-  pub less' : k < i
-  pub part : Holds parts j a
-  pub part' : Holds parts k b
-  pub nodes_are : nodes t ≡ length (own_nodes s) + (nodes a + nodes b)
-  pub iterators_are : iterators t ≡ own_iterators s + (iterators a + iterators b)
-  pub made_are : (n m o : ℕ) → m ≡ n + own_iterators s → o ≡ m + iterators a → made t n ≡ own_nodes s ++ (made a m ++ made b o)
+  pub less : (j < i) × (k < i)
+  pub left : {own : Next} {size' : ℕ} {cs c₁ : List Cell} → OwnLaid s next own cs c₁ → size' ≡ size → Layable parts j own size' a
+  pub right : {own after : Next} {size' : ℕ} {cs c₁ c₂ : List Cell} → OwnLaid s next own cs c₁ → LaidOut a own after c₁ c₂ → size' ≡ size → Layable parts k after size' b
+  pub whole : {own after r : Next} {cs c₁ c₂ c₃ : List Cell} → OwnLaid s next own cs c₁ → LaidOut a own after c₁ c₂ → LaidOut b after r c₂ c₃ → LaidOut t next r cs c₃
 
-pub record Three (parts : List Part) (i j k l : ℕ) (s : Shape) (t : Term) : Type 0 where
+-- the step and the base have Transfer nodes behind them, as many as were counted
+pub record Three (parts : List Part) (i j k l : ℕ) (s : Shape) (next : Next) (size : ℕ) (t : Term) : Type 0 where
   pub a : Term
   pub b : Term
   pub c : Term
-  pub less : j < i
-  pub less' : k < i
-  pub less'' : l < i
-  pub part : Holds parts j a
-  pub part' : Holds parts k b
-  pub part'' : Holds parts l c
-  pub nodes_are : nodes t ≡ length (own_nodes s) + (nodes a + ((nodes b + length (free b)) + (nodes c + length (free c))))
-  pub iterators_are : iterators t ≡ own_iterators s + (iterators a + (iterators b + iterators c))
-  pub made_are : (n m o q : ℕ) → m ≡ n + own_iterators s → o ≡ m + iterators a → q ≡ o + iterators b → made t n ≡ own_nodes s ++ (made a m ++ ((made b o ++ transfers n (free b)) ++ (made c q ++ transfers n (free c))))
+  pub less : (j < i) × (k < i) × (l < i)
+  pub uses : {p : Part} → get_or parts k no_part ≡ p → p.count.uses ≡ length (free b)
+  pub uses' : {p : Part} → get_or parts l no_part ≡ p → p.count.uses ≡ length (free c)
+  pub count : {own : Next} {size' : ℕ} {cs c₁ : List Cell} → OwnLaid s next own cs c₁ → size' ≡ size → Layable parts j own size' a
+  pub step : {own n₂ : Next} {size' : ℕ} {cs c₁ c₂ : List Cell} → OwnLaid s next own cs c₁ → LaidOut a own n₂ c₁ c₂ → size' ≡ size → Layable parts k n₂ size' b
+  pub step_room : {own n₂ n₃ : Next} {cs c₁ c₂ c₃ : List Cell} → OwnLaid s next own cs c₁ → LaidOut a own n₂ c₁ c₂ → LaidOut b n₂ n₃ c₂ c₃ → n₃.node + length (free b) ≤ size
+  pub base : {own n₂ n₃ n₄ : Next} {u size' : ℕ} {cs c₁ c₂ c₃ c₄ : List Cell} → OwnLaid s next own cs c₁ → LaidOut a own n₂ c₁ c₂ → LaidOut b n₂ n₃ c₂ c₃ → u ≡ length (free b) → LaidNodes (replicate u (Transfer, next.iterator)) 0 n₃ n₄ c₃ c₄ → size' ≡ size → Layable parts l n₄ size' c
+  pub base_room : {own n₂ n₃ n₄ n₅ : Next} {u : ℕ} {cs c₁ c₂ c₃ c₄ c₅ : List Cell} → OwnLaid s next own cs c₁ → LaidOut a own n₂ c₁ c₂ → LaidOut b n₂ n₃ c₂ c₃ → u ≡ length (free b) → LaidNodes (replicate u (Transfer, next.iterator)) 0 n₃ n₄ c₃ c₄ → LaidOut c n₄ n₅ c₄ c₅ → n₅.node + length (free c) ≤ size
+  pub whole : {own n₂ n₃ n₄ n₅ r : Next} {u u' : ℕ} {cs c₁ c₂ c₃ c₄ c₅ c₆ : List Cell} → OwnLaid s next own cs c₁ → LaidOut a own n₂ c₁ c₂ → LaidOut b n₂ n₃ c₂ c₃ → u ≡ length (free b) → LaidNodes (replicate u (Transfer, next.iterator)) 0 n₃ n₄ c₃ c₄ → LaidOut c n₄ n₅ c₄ c₅ → u' ≡ length (free c) → LaidNodes (replicate u' (Transfer, next.iterator)) 0 n₅ r c₅ c₆ → LaidOut t next r cs c₆
 
--- a part that makes its own nodes, and none else
-pub record None (s : Shape) (t : Term) : Type 0 where
-  pub nodes_are : nodes t ≡ length (own_nodes s)
-  pub iterators_are : iterators t ≡ own_iterators s
-  pub made_are : (n : ℕ) → made t n ≡ own_nodes s
+-- the free uses of a part, as they were counted
+pub uses_are : (parts : List Part) (i : ℕ) (t : Term) (p : Part) → get_or parts i no_part ≡ p → Holds parts i t → p.count.uses ≡ length (free t)
+uses_are parts i t p e h = ap (λ (q : Part). q.count.uses) (sym e) ∙ ap (λ (q : Count). q.uses) (held parts i t h)
 
-moved : (n m o : ℕ) → o ≡ 0 → m ≡ n + o → n ≡ m
-moved n m o z e = omega arith
+-- and its nodes
+pub nodes_are : (parts : List Part) (i : ℕ) (t : Term) (p : Part) → get_or parts i no_part ≡ p → Holds parts i t → p.count.nodes ≡ nodes t
+nodes_are parts i t p e h = ap (λ (q : Part). q.count.nodes) (sym e) ∙ ap (λ (q : Count). q.nodes) (held parts i t h)
 
-module _ (parts : List Part) (i : ℕ) (t : Term) (p : Part) (e : get_or parts i no_part ≡ p) (h : Holds parts i t) where
-  pub none : ((x : ℕ) × (p.shape ≡ Variable x)) ⊎ ((n : ℕ) × (p.shape ≡ Number n)) → None p.shape t
-  none (inl (x, f)) = as_variable parts i (None p.shape) t p e h x f (rw f (record { nodes_are = refl; iterators_are = refl; made_are = λ n. refl }))
-  none (inr (n, f)) = as_number parts i (None p.shape) t p e h n f (rw f (record { nodes_are = refl; iterators_are = refl; made_are = λ n. refl }))
+-- how many nodes were laid
+long : (t : Term) {next r : Next} {a b : List Cell} → LaidOut t next r a b → r.node ≡ next.node + nodes t
+long t {next} x = omega (arith, x.node, made-length t next.iterator)
 
-  -- such a part of one part, by its construct
-  one_of : (a : Term) (j : ℕ) → j < i → Holds parts j a → (g : Shape) (u : Term) → nodes u ≡ length (own_nodes g) + nodes a → iterators u ≡ iterators a → own_iterators g ≡ 0 → ((n : ℕ) → made u n ≡ own_nodes g ++ made a n) → p.shape ≡ g → One parts i j p.shape u
-  one_of a j l q g u en ei none em f =
-      rw f (record {
+module _ {parts : List Part} {i : ℕ} {next : Next} {size : ℕ} where
+  -- a construct that is no iterator, with one part
+  one_of : {t : Term} (a : Term) {j : ℕ} (s : Shape) (g : Layable parts i next size t) → j < i → Holds parts j a → own_iterators s ≡ 0 → nodes t ≡ length (own_nodes s) + nodes a → iterators t ≡ iterators a → ((n : ℕ) → made t n ≡ own_nodes s ++ made a n) → One parts i j s next size t
+  one_of {t} a {j} s g l d none en ei em =
+      record {
         a = a;
         less = l;
-        part = q;
-        nodes_are = en;
-        iterators_are = omega (arith, ei, none);
-        made_are = λ n m z. rw (moved n m _ none z) (em m);
-      })
+        part = λ o z. record { holds = d; room = omega (arith, g.room, en, o.node, z); few = omega (arith, g.few, ei, none, o.iterator) };
+        whole = λ {own} o x. let z : own.iterator ≡ next.iterator = omega (arith, o.iterator, none) in known (joined o x) (rw z (em next.iterator)) (omega (arith, ei, none));
+      }
 
-  pub one_successor : (j : ℕ) → p.shape ≡ Successor j → One parts i j p.shape t
-  one_successor j f =
-      as_successor parts i (One parts i j p.shape) t p e h j f (λ a l q. one_of a j l q (Successor j) (succ a) (omega arith) refl refl (λ n. refl) f)
-
-  pub one_function : (x n j : ℕ) → p.shape ≡ Function x n j → One parts i j p.shape t
-  one_function x y j f =
-      as_function parts i (One parts i j p.shape) t p e h x y j f (λ T a l q. one_of a j l q (Function x y j) (lam x T a) (omega arith) refl refl (λ n. refl) f)
-
-  -- and of two parts
-  two_of : (a b : Term) (j k : ℕ) → j < i → k < i → Holds parts j a → Holds parts k b → (g : Shape) (u : Term) → nodes u ≡ length (own_nodes g) + (nodes a + nodes b) → iterators u ≡ iterators a + iterators b → own_iterators g ≡ 0 → ((n : ℕ) → made u n ≡ own_nodes g ++ (made a n ++ made b (n + iterators a))) → p.shape ≡ g → Two parts i j k p.shape u
-  two_of a b j k l l' q q' g u en ei none em f =
-      rw f (record {
+  -- and with two parts
+  two_of : {t : Term} (a b : Term) {j k : ℕ} (s : Shape) (g : Layable parts i next size t) → (j < i) × (k < i) → Holds parts j a → Holds parts k b → own_iterators s ≡ 0 → nodes t ≡ length (own_nodes s) + (nodes a + nodes b) → iterators t ≡ iterators a + iterators b → ((n : ℕ) → made t n ≡ own_nodes s ++ (made a n ++ made b (n + iterators a))) → Two parts i j k s next size t
+  two_of {t} a b {j} {k} s g l d d' none en ei em =
+      record {
         a = a;
         b = b;
         less = l;
-        less' = l';
-        part = q;
-        part' = q';
-        nodes_are = en;
-        iterators_are = omega (arith, ei, none);
-        made_are = λ n m o z w. rw (moved n m _ none z, w) (em m);
-      })
+        left = λ o z. record { holds = d; room = omega (arith, g.room, en, o.node, z); few = omega (arith, g.few, ei, none, o.iterator) };
+        right = λ o x z. record { holds = d'; room = omega (arith, g.room, en, o.node, long a x, z); few = omega (arith, g.few, ei, none, o.iterator, x.iterator) };
+        whole = λ {own} {after} o x y.
+            (let z : own.iterator ≡ next.iterator = omega (arith, o.iterator, none) in
+            let w : after.iterator ≡ next.iterator + iterators a = omega (arith, x.iterator, z) in
+            known (joined o (joined x y)) (rw (w, z) (em next.iterator)) (omega (arith, ei, none)));
+      }
 
-  pub two : (j k : ℕ) → (p.shape ≡ Application j k) ⊎ ((p.shape ≡ Pair j k) ⊎ ((x : ℕ) × (y : ℕ) × (p.shape ≡ Let x y j k))) → Two parts i j k p.shape t
+module _ {parts : List Part} {i : ℕ} {next : Next} {size : ℕ} {t : Term} {p : Part} (e : get_or parts i no_part ≡ p) (g : Layable parts i next size t) where
+  known_as : (u : Term) → t ≡ u → Layable parts i next size u
+  known_as u q = subst (Layable parts i next size) q g
+
+  -- a part that makes its own nodes, and none else
+  pub none : ((x : ℕ) × (p.shape ≡ Variable x)) ⊎ ((n : ℕ) × (p.shape ≡ Number n)) → {own : Next} {cs c₁ : List Cell} → OwnLaid p.shape next own cs c₁ → LaidOut t next own cs c₁
+  none (inl (x, f)) o = rw (shaped parts i t p (Variable x) e f g.holds) (rw f at o)
+  none (inr (n, f)) o = rw (shaped parts i t p (Number n) e f g.holds) (rw f at o)
+
+  pub one_successor : (j : ℕ) → p.shape ≡ Successor j → One parts i j p.shape next size t
+  one_successor j f =
+      let (a, q, l, d) = shaped parts i t p (Successor j) e f g.holds in
+      rw (f, q) (one_of a (Successor j) (known_as (succ a) q) l d refl (omega arith) refl (λ n. refl))
+
+  pub one_function : (x n j : ℕ) → p.shape ≡ Function x n j → One parts i j p.shape next size t
+  one_function x n j f =
+      let (T, a, q, l, d) = shaped parts i t p (Function x n j) e f g.holds in
+      rw (f, q) (one_of a (Function x n j) (known_as (lam x T a) q) l d refl (omega arith) refl (λ n. refl))
+
+  pub two : (j k : ℕ) → (p.shape ≡ Application j k) ⊎ ((p.shape ≡ Pair j k) ⊎ ((x : ℕ) × (y : ℕ) × (p.shape ≡ Let x y j k))) → Two parts i j k p.shape next size t
   two j k (inl f) =
-      as_application parts i (Two parts i j k p.shape) t p e h j k f (λ a b l l' q q'. two_of a b j k l l' q q' (Application j k) (app a b) (omega arith) refl refl (λ n. refl) f)
+      let (a, b, q, l, l', d, d') = shaped parts i t p (Application j k) e f g.holds in
+      rw (f, q) (two_of a b (Application j k) (known_as (app a b) q) (l, l') d d' refl (omega arith) refl (λ n. refl))
   two j k (inr (inl f)) =
-      as_pair parts i (Two parts i j k p.shape) t p e h j k f (λ a b l l' q q'. two_of a b j k l l' q q' (Pair j k) (pair a b) (omega arith) refl refl (λ n. refl) f)
+      let (a, b, q, l, l', d, d') = shaped parts i t p (Pair j k) e f g.holds in
+      rw (f, q) (two_of a b (Pair j k) (known_as (pair a b) q) (l, l') d d' refl (omega arith) refl (λ n. refl))
   two j k (inr (inr (x, y, f))) =
-      as_let parts i (Two parts i j k p.shape) t p e h x y j k f (λ a b l l' q q'. two_of a b j k l l' q q' (Let x y j k) (split x y a b) (omega arith) refl refl (λ n. refl) f)
+      let (a, b, q, l, l', d, d') = shaped parts i t p (Let x y j k) e f g.holds in
+      rw (f, q) (two_of a b (Let x y j k) (known_as (split x y a b) q) (l, l') d d' refl (omega arith) refl (λ n. refl))
 
-  pub three : (j k l : ℕ) → p.shape ≡ Iterator j k l → Three parts i j k l p.shape t
+  pub three : (j k l : ℕ) → p.shape ≡ Iterator j k l → Three parts i j k l p.shape next size t
   three j k l f =
-      as_iterator parts i (Three parts i j k l p.shape) t p e h j k l f (λ a b c z z' z'' q q' q''. rw f (record {
+      let (a, b, c, q, z, z', z'', d, d', d'') = shaped parts i t p (Iterator j k l) e f g.holds in
+      let w = known_as (iter a b c) q in
+      rw (f, q) (record {
         a = a;
         b = b;
         c = c;
-        less = z;
-        less' = z';
-        less'' = z'';
-        part = q;
-        part' = q';
-        part'' = q'';
-        nodes_are = omega arith;
-        iterators_are = omega arith;
-        made_are = λ n m o r x y w. (let x' : m ≡ suc n = omega arith in rw (w, y, x') refl);
-      }))
+        less = (z, z', z'');
+        uses = λ {p = r} h. uses_are parts k b r h d';
+        uses' = λ {p = r} h. uses_are parts l c r h d'';
+        count = λ o y. record { holds = d; room = omega (arith, w.room, o.node, y); few = omega (arith, w.few, o.iterator) };
+        step = λ o x y. record { holds = d'; room = omega (arith, w.room, o.node, long a x, y); few = omega (arith, w.few, o.iterator, x.iterator) };
+        step_room = λ o x y. omega (arith, w.room, o.node, long a x, long b y);
+        base = λ {u = u} o x y m v n. record { holds = d''; room = omega (arith, w.room, o.node, long a x, long b y, m, v.node, length-replicate {A = Made} u (Transfer, next.iterator), n); few = omega (arith, w.few, o.iterator, x.iterator, y.iterator, v.iterator) };
+        base_room = λ {u = u} o x y m v y'. omega (arith, w.room, o.node, long a x, long b y, m, v.node, length-replicate {A = Made} u (Transfer, next.iterator), long c y');
+        whole = λ {own} {n₂} {n₃} {n₄} o x y m v y' m' v'.
+            (let i₁ : own.iterator ≡ suc next.iterator = omega (arith, o.iterator) in
+            let i₂ : n₂.iterator ≡ suc next.iterator + iterators a = omega (arith, x.iterator, i₁) in
+            let i₄ : n₄.iterator ≡ suc next.iterator + iterators a + iterators b = omega (arith, y.iterator, v.iterator, i₂) in
+            known (joined o (joined x (joined (joined y (transfers_laid next.iterator (free b) m v)) (joined y' (transfers_laid next.iterator (free c) m' v'))))) (rw (i₄, i₂, i₁) refl) (omega arith));
+      })
 
 -- a construct's own nodes are among those of its term
 Among : Shape → Term → Type 0
@@ -170,11 +196,3 @@ own_among parts i (app t u) p e (j, k, h, l, m, d, f) = subst (λ q. Among q.sha
 own_among parts i (pair t u) p e (j, k, h, l, m, d, f) = subst (λ q. Among q.shape (pair t u)) (sym h.is ∙ e) (omega arith, omega arith)
 own_among parts i (split x y t u) p e (j, k, h, l, m, d, f) = subst (λ q. Among q.shape (split x y t u)) (sym h.is ∙ e) (omega arith, omega arith)
 own_among parts i (iter t u v) p e (j, k, q, h, l, m, n, d, f, g) = subst (λ (r : Part). Among r.shape (iter t u v)) (sym h.is ∙ e) (omega arith, omega arith)
-
--- the free uses of a part, as they were counted
-pub uses_are : (parts : List Part) (i : ℕ) (t : Term) (p : Part) → get_or parts i no_part ≡ p → Holds parts i t → p.count.uses ≡ length (free t)
-uses_are parts i t p e h = ap (λ (q : Part). q.count.uses) (sym e) ∙ ap (λ (q : Count). q.uses) (held parts i t h)
-
--- and its nodes
-pub nodes_are : (parts : List Part) (i : ℕ) (t : Term) (p : Part) → get_or parts i no_part ≡ p → Holds parts i t → p.count.nodes ≡ nodes t
-nodes_are parts i t p e h = ap (λ (q : Part). q.count.nodes) (sym e) ∙ ap (λ (q : Count). q.nodes) (held parts i t h)

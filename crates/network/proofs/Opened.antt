@@ -1,5 +1,5 @@
 -- What a part's shape says of the term that it is.
-use Rattle.std.proofs.Common.{◌≡◌, ℕ, ◌<◌, List, ◌++◌, length, get_or, sym, refl, ap, ◌∙◌, subst, arith, length-append}
+use Rattle.std.proofs.Common.{◌≡◌, ℕ, ◌<◌, List, ◌++◌, get_or, sym, refl, ap, ◌∙◌, subst, arith, length-append}
 use Rattle.std.proofs.lemmas.List.{get_or_append_left}
 use Rattle.calculus.specs.Types.{Ty}
 use Rattle.calculus.specs.Terms.{Term, var, num, succ, lam, app, pair, split, iter}
@@ -33,16 +33,6 @@ module _ (parts : List Part) (i : ℕ) where
   opened (split x y t u) p e (j, k, h, l, m, d, f) = moved (split x y t u) _ p (sym h.is ∙ e) (t, u, refl, l, m, d, f)
   opened (iter t u v) p e (j, k, q, h, l, m, n, d, f, g) = moved (iter t u v) _ p (sym h.is ∙ e) (t, u, v, refl, l, m, n, d, f, g)
 
-  pub there : (t : Term) → Holds parts i t → i < length parts
-  there (var x) h = h.there
-  there (num n) h = h.there
-  there (succ t) (j, h, l, d) = h.there
-  there (lam x T t) (n, j, h, l, d) = h.there
-  there (app t u) (j, k, h, l, m, d, f) = h.there
-  there (pair t u) (j, k, h, l, m, d, f) = h.there
-  there (split x y t u) (j, k, h, l, m, d, f) = h.there
-  there (iter t u v) (j, k, q, h, l, m, n, d, f, g) = h.there
-
   -- its counts are those of the term
   pub held : (t : Term) → Holds parts i t → (get_or parts i no_part).count ≡ counted t
   held (var x) h = ap (λ p. p.count) h.is
@@ -56,32 +46,6 @@ module _ (parts : List Part) (i : ℕ) where
 
   pub shaped : (t : Term) (p : Part) (s : Shape) → get_or parts i no_part ≡ p → p.shape ≡ s → Holds parts i t → Opened parts i s t
   shaped t p s e f h = subst (λ r. Opened parts i r t) f (opened t p e h)
-
-  -- what holds of every term of the shape holds of the part's
-  module _ (P : Term → Type 0) (t : Term) (p : Part) (e : get_or parts i no_part ≡ p) (h : Holds parts i t) where
-    pub as_variable : (x : ℕ) → p.shape ≡ Variable x → P (var x) → P t
-    as_variable x f k = subst P (sym (shaped t p _ e f h)) k
-
-    pub as_number : (n : ℕ) → p.shape ≡ Number n → P (num n) → P t
-    as_number n f k = subst P (sym (shaped t p _ e f h)) k
-
-    pub as_successor : (j : ℕ) → p.shape ≡ Successor j → ((a : Term) → (j < i) → Holds parts j a → P (succ a)) → P t
-    as_successor j f k = let o = shaped t p _ e f h in subst P (sym o.1) (k o.0 o.2 o.3)
-
-    pub as_function : (x n j : ℕ) → p.shape ≡ Function x n j → ((T : Ty) (a : Term) → (j < i) → Holds parts j a → P (lam x T a)) → P t
-    as_function x n j f k = let o = shaped t p _ e f h in subst P (sym o.2) (k o.0 o.1 o.3 o.4)
-
-    pub as_application : (j k : ℕ) → p.shape ≡ Application j k → ((a b : Term) → (j < i) → (k < i) → Holds parts j a → Holds parts k b → P (app a b)) → P t
-    as_application j l f k = let o = shaped t p _ e f h in subst P (sym o.2) (k o.0 o.1 o.3 o.4 o.5 o.6)
-
-    pub as_pair : (j k : ℕ) → p.shape ≡ Pair j k → ((a b : Term) → (j < i) → (k < i) → Holds parts j a → Holds parts k b → P (pair a b)) → P t
-    as_pair j l f k = let o = shaped t p _ e f h in subst P (sym o.2) (k o.0 o.1 o.3 o.4 o.5 o.6)
-
-    pub as_let : (x y j k : ℕ) → p.shape ≡ Let x y j k → ((a b : Term) → (j < i) → (k < i) → Holds parts j a → Holds parts k b → P (split x y a b)) → P t
-    as_let x y j l f k = let o = shaped t p _ e f h in subst P (sym o.2) (k o.0 o.1 o.3 o.4 o.5 o.6)
-
-    pub as_iterator : (j k l : ℕ) → p.shape ≡ Iterator j k l → ((a b c : Term) → (j < i) → (k < i) → (l < i) → Holds parts j a → Holds parts k b → Holds parts l c → P (iter a b c)) → P t
-    as_iterator j l m f k = let o = shaped t p _ e f h in subst P (sym o.3) (k o.0 o.1 o.2 o.4 o.5 o.6 o.7 o.8 o.9)
 
 -- a part is the same term when parts are added
 is_more : (parts more : List Part) (i : ℕ) (s : Shape) (t : Term) → Is parts i s t → Is (parts ++ more) i s t

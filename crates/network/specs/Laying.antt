@@ -1,5 +1,5 @@
 -- How a part's nodes are laid: those that its construct makes itself, then those of its own parts. Assumes nothing.
-use Rattle.std.specs.Prelude.{◌≡◌, ℕ, ◌+◌, ◌≤◌, List, [], ◌∷◌}
+use Rattle.std.specs.Prelude.{◌≡◌, ℕ, ◌+◌, ◌≤◌, List, [], ◌∷◌, length}
 use Rattle.cells.specs.declared.kinds.Cell.{Cell}
 use Rattle.cells.specs.declared.kinds.Kind.TheVariants as kind
 use Rattle.calculus.specs.Terms.{Term, iterators, nodes}
@@ -39,8 +39,12 @@ pub record Layable (parts : List Part) (i : ℕ) (next : Next) (size : ℕ) (t :
   pub room : next.node + nodes t ≤ size
   pub few : next.iterator + iterators t ≤ 4294967295
 
--- the nodes of t were laid, and r has the numbers after them
-pub record LaidOut (t : Term) (next r : Next) (cells cells' : List Cell) : Type 0 where
-  pub written : cells' ≡ laid (made t next.iterator) next.node cells
-  pub node : r.node ≡ next.node + nodes t
-  pub iterator : r.iterator ≡ next.iterator + iterators t
+-- these nodes, of which so many begin an iterator, were laid from `next` on, and r has the numbers after them
+pub record LaidNodes (ms : List Made) (iterators : ℕ) (next r : Next) (cells cells' : List Cell) : Type 0 where
+  pub written : cells' ≡ laid ms next.node cells
+  pub node : r.node ≡ next.node + length ms
+  pub iterator : r.iterator ≡ next.iterator + iterators
+
+-- the nodes of t were laid
+abbrev pub LaidOut : Term → Next → Next → List Cell → List Cell → Type 0
+LaidOut t next = LaidNodes (made t next.iterator) (iterators t) next

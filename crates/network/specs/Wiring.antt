@@ -1,5 +1,5 @@
 -- How a part is wired: the wires of its construct, then those of its own parts. Assumes nothing.
-use Rattle.std.specs.Prelude.{◌≡◌, ℕ, suc, ◌+◌, ◌*◌, ◌<◌, ◌≤◌, cond, List, [], ◌∷◌, ◌++◌, length, ◌==◌, slice_index}
+use Rattle.std.specs.Prelude.{◌≡◌, ℕ, suc, ◌+◌, ◌*◌, ◌<◌, ◌≤◌, List, [], ◌∷◌, ◌++◌, length, filter, None, Option, is_some, unwrap_or, slice_index_or}
 use Rattle.cells.specs.declared.kinds.Cell.{Cell}
 use Rattle.cells.specs.Ports.{absent}
 use Rattle.calculus.specs.Terms.{Term, var, num, succ, lam, app, pair, split, iter, free, subterms, nodes}
@@ -12,14 +12,20 @@ use Rattle.network.specs.declared.part.Part.{Part}
 use Rattle.network.specs.Parts.{Linear, Holds}
 use Rattle.network.specs.Laying.{own_nodes}
 
--- a table has for each variable the port at which its wire starts
-abbrev pub starting : List ℕ → Env
-starting starts x = slice_index starts x
+-- a table has for each variable the port at which its wire starts, where the variable is in force
+abbrev pub Table : Type 0
+Table = List (Option ℕ)
 
--- the variables that start at a port, of those listed
-abbrev pub in_force : List ℕ → List ℕ → List ℕ
-in_force starts [] = []
-in_force starts (x ∷ xs) = cond (starting starts x == absent) (in_force starts xs) (x ∷ in_force starts xs)
+abbrev pub start_of : Table → ℕ → Option ℕ
+start_of starts x = slice_index_or starts x None
+
+-- the table as an environment, in which each variable has a number: for one that is not in force a number that is no port's
+abbrev pub starting : Table → Env
+starting starts x = unwrap_or (start_of starts x) absent
+
+-- those of the variables that are in force
+abbrev pub in_force : Table → List ℕ → List ℕ
+in_force starts xs = filter (λ x. is_some (start_of starts x)) xs
 
 -- a table of n ports has a place for each variable of the term
 abbrev pub Below : ℕ → Term → Type 0
@@ -54,7 +60,7 @@ own_wires (Iterator t u v) k r e =
     (r, l2 k) ∷ ((l3 k, l2 c) ∷ ((l1 c, l1 c') ∷ ((l3 c', l2 m) ∷ ((l3 c, l3 m) ∷ []))))
 
 -- where the shape is a use, its variable starts at a port of the first n nodes
-abbrev pub Started : ℕ → List ℕ → Shape → Type 0
+abbrev pub Started : ℕ → Table → Shape → Type 0
 Started n starts (Variable x) = (x < length starts) × (starting starts x < 3 * n)
 Started n starts (Number v) = Unit {0}
 Started n starts (Successor t) = Unit {0}
@@ -70,7 +76,7 @@ pub record Numbered (n size : ℕ) : Type 0 where
   pub ports : 3 * n ≤ 4294967295
 
 -- the construct's own wires go between ports of n nodes
-pub record Joinable (shape : Shape) (k root : ℕ) (starts : List ℕ) (size : ℕ) : Type 0 where
+pub record Joinable (shape : Shape) (k root : ℕ) (starts : Table) (size : ℕ) : Type 0 where
   pub n : ℕ
   pub numbered : Numbered n size
   pub rooted : root < 3 * n
@@ -78,7 +84,7 @@ pub record Joinable (shape : Shape) (k root : ℕ) (starts : List ℕ) (size : �
   pub started : Started n starts shape
 
 -- these variables are distinct and start at ports of n nodes, among which are Transfer nodes for them from `first` on
-pub record Crossable (uses : List ℕ) (first : ℕ) (starts : List ℕ) (size : ℕ) : Type 0 where
+pub record Crossable (uses : List ℕ) (first : ℕ) (starts : Table) (size : ℕ) : Type 0 where
   pub n : ℕ
   pub numbered : Numbered n size
   pub room : first + length uses ≤ n
@@ -87,13 +93,13 @@ pub record Crossable (uses : List ℕ) (first : ℕ) (starts : List ℕ) (size :
   pub distinct : Distinct uses
 
 -- the variables went through the Transfer nodes: they are wired to them outside, and start at them inside
-pub record Crossed (uses : List ℕ) (first : ℕ) (starts starts' : List ℕ) (cells cells' : List Cell) : Type 0 where
+pub record Crossed (uses : List ℕ) (first : ℕ) (starts starts' : Table) (cells cells' : List Cell) : Type 0 where
   pub written : cells' ≡ wired_cells (crossings uses first (starting starts)) cells
   pub inside : (y : ℕ) → starting starts' y ≡ entered uses first (starting starts) y
   pub long : length starts' ≡ length starts
 
 -- part i is the linear term t, whose variables start at ports of n nodes
-pub record Ready (parts : List Part) (i : ℕ) (starts : List ℕ) (size n : ℕ) (t : Term) : Type 0 where
+pub record Ready (parts : List Part) (i : ℕ) (starts : Table) (size n : ℕ) (t : Term) : Type 0 where
   pub numbered : Numbered n size
   pub holds : Holds parts i t
   pub linear : Linear t
@@ -102,32 +108,32 @@ pub record Ready (parts : List Part) (i : ℕ) (starts : List ℕ) (size n : ℕ
   pub started : EachVariable (λ x. starting starts x < 3 * n) (free t)
 
 -- among the nodes are its own, from k on, and behind these a Transfer node for each free use
-pub record Passable (parts : List Part) (i k : ℕ) (starts : List ℕ) (size : ℕ) (t : Term) : Type 0 where
+pub record Passable (parts : List Part) (i k : ℕ) (starts : Table) (size : ℕ) (t : Term) : Type 0 where
   pub n : ℕ
   pub ready : Ready parts i starts size n t
   pub room : k + nodes t + length (free t) ≤ n
 
 -- and that of the port that its root goes to
-pub record Enclosed (parts : List Part) (i k root : ℕ) (starts : List ℕ) (size : ℕ) (t : Term) : Type 0 where
+pub record Enclosed (parts : List Part) (i k root : ℕ) (starts : Table) (size : ℕ) (t : Term) : Type 0 where
   pub passable : Passable parts i k starts size t
   pub rooted : root < 3 * passable.n
 
 -- among the nodes are its own, from k on, and that of the port that its root goes to
-pub record Wirable (parts : List Part) (i k root : ℕ) (starts : List ℕ) (size : ℕ) (t : Term) : Type 0 where
+pub record Wirable (parts : List Part) (i k root : ℕ) (starts : Table) (size : ℕ) (t : Term) : Type 0 where
   pub n : ℕ
   pub ready : Ready parts i starts size n t
   pub room : k + nodes t ≤ n
   pub rooted : root < 3 * n
 
 -- the term was wired, and variables that are not free in it start where they did
-pub record Wired (t : Term) (k root r : ℕ) (starts starts' : List ℕ) (cells cells' : List Cell) : Type 0 where
+pub record Wired (t : Term) (k root r : ℕ) (starts starts' : Table) (cells cells' : List Cell) : Type 0 where
   pub next : r ≡ k + nodes t
   pub written : cells' ≡ wired_cells (wires t k root (starting starts)) cells
   pub long : length starts' ≡ length starts
   pub same : (y : ℕ) → Apart y (free t) → starting starts' y ≡ starting starts y
 
 -- the step or the base t was wired inside its Transfer nodes
-pub record Passed (t : Term) (k root r : ℕ) (starts starts' : List ℕ) (cells cells' : List Cell) : Type 0 where
+pub record Passed (t : Term) (k root r : ℕ) (starts starts' : Table) (cells cells' : List Cell) : Type 0 where
   pub next : r ≡ k + nodes t + length (free t)
   pub written : cells' ≡ wired_cells (crossings (free t) (k + nodes t) (starting starts) ++ wires t k root (entered (free t) (k + nodes t) (starting starts))) cells
   pub long : length starts' ≡ length starts

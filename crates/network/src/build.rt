@@ -1,88 +1,70 @@
 // Building: a text is checked, its network counted, and laid and wired in cells that the host lends.
-ghost use Rattle.std.specs.Prelude.{◌≡◌, ◌+◌, ◌<◌, ◌≤◌, [], length, replicate, IfOk, vec_len, vec_capacity};
+ghost use Rattle.std.specs.Prelude.{◌≡◌, ◌≤◌, [], length, replicate, None, IfOk, vec_capacity};
 ghost use Rattle.calculus.specs.Terms.{Term};
 ghost use Rattle.network.specs.Building.{Built, Needs, Checked, Drawable, Drawn};
 
 use crate::lay::{lay, lay_node};
-use crate::part::{Next, Part};
+use crate::part::{Next, Part, SUBTERMS};
 use crate::plan::{part_at, plan};
-use crate::wire::wire;
+use crate::wire::Wiring;
 use cells::{Cell, Kind};
 use grammar::accept;
 use language::workspace::Workspace;
 use std::alloc::{AllocError, Global};
 use syntax::refusal::{Fault, Refusal};
 
-const SUBTERMS: usize = 2048;
-
-const PLACES: usize = 16_384;
-
-/// All that building works in, had before a text is looked at: a checker; the parts of a program; for each place in a text the port at which
-/// the variable bound there starts; and the free uses of a part.
+/// All that building works in, had before a text is looked at: a checker; the parts of a program; and what wiring works in.
 #[derive(Drop)]
 pub struct Builder {
     checker: Workspace,
     parts: Vec<Part>,
-    starts: Vec<usize>,
-    uses: Vec<usize>,
+    wiring: Wiring,
     ghost parts_fit: { 2048 ≤ vec_capacity parts },
-    ghost places: { vec_len starts ≡ 16384 },
-    ghost uses_fit: { 2048 ≤ vec_capacity uses },
-}
-
-// Checks a text and counts its parts, and gives the number of the whole.
-fn check(text: &[u8], checker: &mut Workspace, parts: &mut Vec<Part>) -> Result<usize, Refusal>
-    requires { 2048 ≤ vec_capacity parts.old }
-    ensures checked { Checked text.now parts.new.items result }
-    ensures room { vec_capacity parts.new ≡ vec_capacity parts.old }
-{
-    let program = accept(text, checker)?;
-    plan(program.subterms, program.root + 1, parts);
-    Ok(program.root)
-}
-
-// Writes the network of part `i`: node 0 is the root, and iterators count from 1.
-fn draw(parts: &[Part], i: usize, starts: &mut [usize], uses: &mut Vec<usize>, cells: &mut [Cell])
-    requires program { (t : Term) × Drawable parts.now i (length starts.old) (length cells.old) t }
-    requires room { 2048 ≤ vec_capacity uses.old }
-    ensures drawn { (t : Term) → Drawable parts.now i (length starts.old) (length cells.old) t → Drawn t cells.old cells.new }
-    ensures room { vec_capacity uses.new ≡ vec_capacity uses.old }
-{
-    lay_node(Kind::Root, 0, 0, cells);
-    lay(
-        parts,
-        i,
-        Next {
-            node: 1,
-            iterator: 1,
-        },
-        cells,
-    );
-    wire(parts, i, 1, 0, starts, uses, cells);
 }
 
 impl Builder {
     /// Reserves all memory; building asks for none. The lists are empty, and the table has an entry for each place of a text.
     pub fn new(heap: Global) -> Result<Builder, AllocError>
-        ensures { IfOk result (λ b. (b.parts.items ≡ []) × (b.starts.items ≡ replicate 16384 0) × (b.uses.items ≡ [])) }
+        ensures { IfOk result (λ b. (b.parts.items ≡ []) × (b.wiring.starts.items ≡ replicate 16384 None) × (b.wiring.uses.items ≡ [])) }
     {
         let checker = Workspace::new(heap)?;
         let parts = Vec::with_capacity(heap, SUBTERMS)?;
-        let starts = Vec::from_elem(heap, 0, PLACES)?;
-        let uses = Vec::with_capacity(heap, SUBTERMS)?;
+        let wiring = Wiring::new(heap)?;
         Ok(Builder {
             checker,
             parts,
-            starts,
-            uses,
+            wiring,
         })
+    }
+
+    // Checks a text and counts its parts, and gives the number of the whole.
+    fn check(&mut self, text: &[u8]) -> Result<usize, Refusal>
+        ensures { Checked text.now self.new.parts.items result }
+    {
+        let program = accept(text, &mut self.checker)?;
+        plan(program.subterms, program.root + 1, &mut self.parts);
+        Ok(program.root)
+    }
+
+    // Writes the network of part `i`: node 0 is the root, and iterators count from 1.
+    fn draw(&mut self, i: usize, cells: &mut [Cell])
+        requires { (t : Term) × Drawable self.old.parts.items i 16384 (length cells.old) t }
+        ensures { (t : Term) → Drawable self.old.parts.items i 16384 (length cells.old) t → Drawn t cells.old cells.new }
+    {
+        lay_node(Kind::Root, 0, 0, cells);
+        let first = Next {
+            node: 1,
+            iterator: 1,
+        };
+        lay(&self.parts, i, first, cells);
+        self.wiring.wire(&self.parts, i, 1, 0, cells);
     }
 
     /// Builds the network of a text in the first cells, and gives the number of its nodes, the root included.
     pub fn build(&mut self, text: &[u8], cells: &mut [Cell]) -> Result<usize, Refusal>
         ensures { Built text.now cells.old cells.new result }
     {
-        let whole = check(text, &mut self.checker, &mut self.parts)?;
+        let whole = self.check(text)?;
         let nodes = 1 + part_at(&self.parts, whole).count.nodes;
         if nodes > cells.len() {
             return Err(Refusal {
@@ -90,7 +72,7 @@ impl Builder {
                 place: 0,
             });
         }
-        draw(&self.parts, whole, &mut self.starts, &mut self.uses, cells);
+        self.draw(whole, cells);
         Ok(nodes)
     }
 
@@ -98,7 +80,7 @@ impl Builder {
     pub fn nodes_needed(&mut self, text: &[u8]) -> Result<usize, Refusal>
         ensures { Needs text.now result }
     {
-        let whole = check(text, &mut self.checker, &mut self.parts)?;
+        let whole = self.check(text)?;
         Ok(1 + part_at(&self.parts, whole).count.nodes)
     }
 }

@@ -3,37 +3,36 @@ ghost use Rattle.std.specs.Prelude.{◌≡◌, ◌+◌, ◌<◌, ◌≤◌, leng
 ghost use Rattle.cells.specs.declared.kinds.Kind.TheVariants.{Transfer};
 ghost use Rattle.calculus.specs.Terms.{Term};
 ghost use Rattle.geometry.specs.Network.{bare, cell_of};
-ghost use Rattle.geometry.specs.Memory.{laid};
-ghost use Rattle.network.specs.Parts.{Holds};
-ghost use Rattle.network.specs.Laying.{own_nodes, own_iterators, Layable, LaidOut};
+ghost use Rattle.network.specs.Laying.{own_nodes, own_iterators, Layable, LaidNodes, LaidOut};
 
 use crate::part::{Next, Part};
 use crate::plan::part_at;
-use cells::{Cell, Kind};
+use cells::{ABSENT, Cell, Kind};
 use syntax::program::Shape;
 
-// The link that stands for none.
-const ABSENT: u32 = 4_294_967_295;
+// A node that is not yet linked.
+fn unlinked(kind: Kind, value: u32) -> Cell
+    ensures { result ≡ cell_of (bare (kind, value)) }
+{
+    Cell {
+        kind: kind.into(),
+        value,
+        links: [ABSENT; 3],
+    }
+}
 
-// Writes a node that is not yet linked.
-pub fn lay_node(kind: Kind, value: u32, k: usize, cells: &mut [Cell])
+pub(crate) fn lay_node(kind: Kind, value: u32, k: usize, cells: &mut [Cell])
     requires { k < length cells.old }
     ensures { cells.new ≡ slice_set cells.old k (cell_of (bare (kind, value))) }
 {
-    cells[k] = Cell {
-        kind: kind as u8,
-        value,
-        links: [ABSENT, ABSENT, ABSENT],
-    };
+    cells[k] = unlinked(kind, value);
 }
 
 // Writes the nodes that a construct makes itself, before those of its parts.
 fn lay_own(shape: Shape, next: Next, cells: &mut [Cell]) -> Next
     requires room { next.node + length (own_nodes shape) ≤ length cells.old }
     requires few { next.iterator + own_iterators shape ≤ 4294967295 }
-    ensures cells { cells.new ≡ laid (own_nodes shape) next.node cells.old }
-    ensures node { result.node ≡ next.node + length (own_nodes shape) }
-    ensures iterator { result.iterator ≡ next.iterator + own_iterators shape }
+    ensures { LaidNodes (own_nodes shape) (own_iterators shape) next result cells.old cells.new }
 {
     let k = next.node;
     match shape {
@@ -55,30 +54,25 @@ fn lay_own(shape: Shape, next: Next, cells: &mut [Cell]) -> Next
     }
     Next {
         node: k + 1,
-        iterator: next.iterator,
+        ..next
     }
 }
 
 // Writes the Transfer nodes of an iterator's step or base, one for each of its free uses.
 fn lay_transfers(uses: usize, iterator: u32, next: Next, cells: &mut [Cell]) -> Next
     requires { next.node + uses ≤ length cells.old }
-    ensures cells { cells.new ≡ laid (replicate uses (Transfer, iterator)) next.node cells.old }
-    ensures next { (result.node ≡ next.node + uses) × (result.iterator ≡ next.iterator) }
+    ensures { LaidNodes (replicate uses (Transfer, iterator)) 0 next result cells.old cells.new }
 {
     let end = next.node + uses;
-    for k in next.node..end {
-        lay_node(Kind::Transfer, iterator, k, cells);
-    }
-    Next {
-        node: end,
-        iterator: next.iterator,
-    }
+    cells[next.node..end].fill(unlinked(Kind::Transfer, iterator));
+    Next { node: end, ..next }
 }
 
-/// Writes the nodes of part `i`, numbered from `next` on, and gives the numbers after these.
-pub fn lay(parts: &[Part], i: usize, next: Next, cells: &mut [Cell]) -> Next
+// Writes the nodes of part `i`, numbered from `next` on, and gives the numbers after these. What is next is passed on by value: kept in a
+// struct with the cells it would be no plainer, since each method would have to promise that it keeps the place of these.
+pub(crate) fn lay(parts: &[Part], i: usize, next: Next, cells: &mut [Cell]) -> Next
     requires { (t : Term) × Layable parts.now i next (length cells.old) t }
-    ensures { (t : Term) → Holds parts.now i t → LaidOut t next result cells.old cells.new }
+    ensures { (t : Term) → Layable parts.now i next (length cells.old) t → LaidOut t next result cells.old cells.new }
 {
     let shape = part_at(parts, i).shape;
     let own = lay_own(shape, next, cells);

@@ -1,22 +1,25 @@
 use syntax::program::Shape;
 
+// A program has no more sub-terms than this.
+pub(crate) const SUBTERMS: usize = 2048;
+
 // How many nodes a sub-term makes, and how many uses of variables are free in it.
 #[derive(Clone, Copy, PartialEq, Eq, Debug)]
-pub struct Count {
-    pub nodes: usize,
-    pub uses: usize,
+pub(crate) struct Count {
+    pub(crate) nodes: usize,
+    pub(crate) uses: usize,
 }
 
 // A sub-term with its counts. Its parts are sub-terms with smaller numbers.
 #[derive(Clone, Copy)]
-pub struct Part {
-    pub shape: Shape,
-    pub count: Count,
+pub(crate) struct Part {
+    pub(crate) shape: Shape,
+    pub(crate) count: Count,
 }
 
 // The numbers that the next node and the next iterator get.
 #[derive(Clone, Copy, PartialEq, Eq, Debug)]
-pub struct Next {
-    pub node: usize,
-    pub iterator: u32,
+pub(crate) struct Next {
+    pub(crate) node: usize,
+    pub(crate) iterator: u32,
 }

@@ -12,10 +12,49 @@ const NO_PART: Part = Part {
     count: Count { nodes: 0, uses: 0 },
 };
 
-pub fn part_at(parts: &[Part], i: usize) -> Part
+pub(crate) fn part_at(parts: &[Part], i: usize) -> Part
     ensures { slice_index_or parts.now i no_part ≡ result }
 {
-    if i < parts.len() { parts[i] } else { NO_PART }
+    parts.get(i).copied().unwrap_or(NO_PART)
+}
+
+// Sums stop at the limit of their word, which the counts of a program do not reach.
+impl Count {
+    fn beside(self, other: Count) -> Count
+        ensures { result ≡ both self other }
+    {
+        Count {
+            nodes: self.nodes.saturating_add(other.nodes),
+            uses: self.uses.saturating_add(other.uses),
+        }
+    }
+
+    // With `n` nodes of its own.
+    fn making(self, n: usize) -> Count
+        ensures { result ≡ with_nodes n self }
+    {
+        Count {
+            nodes: self.nodes.saturating_add(n),
+            ..self
+        }
+    }
+
+    // Under `n` binders, each of which is used once.
+    fn binding(self, n: usize) -> Count
+        ensures { result ≡ without_uses n self }
+    {
+        Count {
+            uses: self.uses.saturating_sub(n),
+            ..self
+        }
+    }
+
+    // The step or the base of an iterator, with a Transfer node for each free use.
+    fn passing(self) -> Count
+        ensures { result ≡ with_transfers self }
+    {
+        self.making(self.uses)
+    }
 }
 
 fn count_at(parts: &[Part], i: usize) -> Count
@@ -24,75 +63,31 @@ fn count_at(parts: &[Part], i: usize) -> Count
     part_at(parts, i).count
 }
 
-// Sums stop at the limit of their word, which the counts of a program do not reach.
-fn beside(a: Count, b: Count) -> Count
-    ensures { result ≡ both a b }
-{
-    Count {
-        nodes: a.nodes.saturating_add(b.nodes),
-        uses: a.uses.saturating_add(b.uses),
-    }
-}
-
-// With `n` nodes of its own.
-fn making(n: usize, a: Count) -> Count
-    ensures { result ≡ with_nodes n a }
-{
-    Count {
-        nodes: a.nodes.saturating_add(n),
-        uses: a.uses,
-    }
-}
-
-// Under `n` binders, each of which is used once.
-fn binding(n: usize, a: Count) -> Count
-    ensures { result ≡ without_uses n a }
-{
-    Count {
-        nodes: a.nodes,
-        uses: a.uses.saturating_sub(n),
-    }
-}
-
-// The step or the base of an iterator, with a Transfer node for each free use.
-fn passing(a: Count) -> Count
-    ensures { result ≡ with_transfers a }
-{
-    Count {
-        nodes: a.nodes.saturating_add(a.uses),
-        uses: a.uses,
-    }
-}
-
 fn count_of(parts: &[Part], shape: Shape) -> Count
     ensures { result ≡ count_of parts.now shape }
 {
     match shape {
         Shape::Variable(_) => Count { nodes: 0, uses: 1 },
         Shape::Number(_) => Count { nodes: 1, uses: 0 },
-        Shape::Successor(t) => making(1, count_at(parts, t)),
-        Shape::Function { body, .. } => making(1, binding(1, count_at(parts, body))),
+        Shape::Successor(t) => count_at(parts, t).making(1),
+        Shape::Function { body, .. } => count_at(parts, body).binding(1).making(1),
         Shape::Application(t, u) | Shape::Pair(t, u) => {
-            making(1, beside(count_at(parts, t), count_at(parts, u)))
+            count_at(parts, t).beside(count_at(parts, u)).making(1)
         }
         Shape::Let { pair, body, .. } => {
-            making(
-                1,
-                beside(count_at(parts, pair), binding(2, count_at(parts, body))),
-            )
+            let bound = count_at(parts, body).binding(2);
+            count_at(parts, pair).beside(bound).making(1)
         }
         Shape::Iterator { count, step, base } => {
-            let passed = beside(
-                passing(count_at(parts, step)),
-                passing(count_at(parts, base)),
-            );
-            making(4, beside(count_at(parts, count), passed))
+            let step = count_at(parts, step).passing();
+            let base = count_at(parts, base).passing();
+            count_at(parts, count).beside(step.beside(base)).making(4)
         }
     }
 }
 
-/// Counts the first `count` sub-terms, parts before wholes.
-pub fn plan(subs: &[Subterm], count: usize, parts: &mut Vec<Part>)
+// Counts the first `count` sub-terms, parts before wholes.
+pub(crate) fn plan(subs: &[Subterm], count: usize, parts: &mut Vec<Part>)
     requires there { count ≤ length subs.now }
     requires room { count ≤ vec_capacity parts.old }
     ensures planned { Planned subs.now parts.new.items }
@@ -100,8 +95,8 @@ pub fn plan(subs: &[Subterm], count: usize, parts: &mut Vec<Part>)
     ensures room { vec_capacity parts.new ≡ vec_capacity parts.old }
 {
     parts.clear();
-    for i in 0..count {
-        let shape = subs[i].shape;
+    for subterm in &subs[..count] {
+        let shape = subterm.shape;
         let count = count_of(parts, shape);
         parts.push_reserved(Part { shape, count });
     }

@@ -1,13 +1,9 @@
 // The networks of five programs, written out by hand from the rules: kind, value and links of each node.
-use cells::Cell;
+use cells::{ABSENT, Cell};
 use network::Builder;
 use std::process::Abort;
 use std::test::Fail;
 use syntax::refusal::{Fault, Refusal};
-
-const NONE: u32 = 4_294_967_295;
-
-type Row = (u8, u32, [u32; 3]);
 
 // Stands in memory before building.
 const DUST: Cell = Cell {
@@ -16,35 +12,21 @@ const DUST: Cell = Cell {
     links: [9, 9, 9],
 };
 
-fn same(cell: &Cell, row: &Row) -> bool {
-    cell.kind == row.0
-        && cell.value == row.1
-        && cell.links[0] == row.2[0]
-        && cell.links[1] == row.2[1]
-        && cell.links[2] == row.2[2]
+fn node(kind: u8, value: u32, links: [u32; 3]) -> Cell {
+    Cell { kind, value, links }
 }
 
 // The cells begin with the network, and the rest of them is as it was.
-fn agree(cells: &[Cell], rows: &[Row]) -> bool {
-    for (i, cell) in cells.iter().enumerate() {
-        let row = if i < rows.len() {
-            rows[i]
-        } else {
-            (9, 9, [9, 9, 9])
-        };
-        if !same(cell, &row) {
-            return false;
-        }
-    }
-    true
+fn agree(cells: &[Cell], network: &[Cell]) -> bool {
+    cells.starts_with(network) && cells.iter().skip(network.len()).all(|cell| *cell == DUST)
 }
 
-fn built(rt: &(impl Abort + AllocGlobal), text: &[u8], rows: &[Row]) -> Result<(), Fail> {
+fn built(rt: &(impl Abort + AllocGlobal), text: &[u8], network: &[Cell]) -> Result<(), Fail> {
     let mut builder = Builder::new(rt.alloc())?;
     let mut cells = [DUST; 24];
     let n = builder.build(text, &mut cells)?;
-    assert_eq!(rt; n, rows.len());
-    assert!(rt; agree(&cells, rows));
+    assert_eq!(rt; n, network.len());
+    assert!(rt; agree(&cells, network));
     assert_eq!(rt; builder.nodes_needed(text)?, n);
     Ok(())
 }
@@ -55,9 +37,9 @@ fn successor(rt: HostRuntime) -> Result<(), Fail> {
         &rt,
         b"S 3",
         &[
-            (0, 0, [4, NONE, NONE]),
-            (2, 0, [6, 0, NONE]),
-            (1, 3, [3, NONE, NONE]),
+            node(0, 0, [4, ABSENT, ABSENT]),
+            node(2, 0, [6, 0, ABSENT]),
+            node(1, 3, [3, ABSENT, ABSENT]),
         ],
     )
 }
@@ -68,11 +50,11 @@ fn application(rt: HostRuntime) -> Result<(), Fail> {
         &rt,
         b"(\\x:N.S x 3)",
         &[
-            (0, 0, [4, NONE, NONE]),
-            (3, 0, [6, 0, 12]),
-            (3, 0, [3, 10, 9]),
-            (2, 0, [8, 7, NONE]),
-            (1, 3, [5, NONE, NONE]),
+            node(0, 0, [4, ABSENT, ABSENT]),
+            node(3, 0, [6, 0, 12]),
+            node(3, 0, [3, 10, 9]),
+            node(2, 0, [8, 7, ABSENT]),
+            node(1, 3, [5, ABSENT, ABSENT]),
         ],
     )
 }
@@ -83,12 +65,12 @@ fn pair_taken_apart(rt: HostRuntime) -> Result<(), Fail> {
         &rt,
         b"let <x,y> = <\\z:N.z,7> in (x y)",
         &[
-            (0, 0, [16, NONE, NONE]),
-            (3, 0, [6, 15, 17]),
-            (3, 0, [3, 9, 12]),
-            (3, 0, [7, 11, 10]),
-            (1, 7, [8, NONE, NONE]),
-            (3, 0, [4, 0, 5]),
+            node(0, 0, [16, ABSENT, ABSENT]),
+            node(3, 0, [6, 15, 17]),
+            node(3, 0, [3, 9, 12]),
+            node(3, 0, [7, 11, 10]),
+            node(1, 7, [8, ABSENT, ABSENT]),
+            node(3, 0, [4, 0, 5]),
         ],
     )
 }
@@ -99,15 +81,15 @@ fn iterator(rt: HostRuntime) -> Result<(), Fail> {
         &rt,
         b"iter 2 \\x:N.S x 3",
         &[
-            (0, 0, [4, NONE, NONE]),
-            (4, 0, [15, 0, 7]),
-            (5, 0, [9, 5, 14]),
-            (6, 0, [6, 24, 13]),
-            (3, 0, [18, 11, 8]),
-            (1, 2, [3, NONE, NONE]),
-            (3, 0, [12, 22, 21]),
-            (2, 0, [20, 19, NONE]),
-            (1, 3, [10, NONE, NONE]),
+            node(0, 0, [4, ABSENT, ABSENT]),
+            node(4, 0, [15, 0, 7]),
+            node(5, 0, [9, 5, 14]),
+            node(6, 0, [6, 24, 13]),
+            node(3, 0, [18, 11, 8]),
+            node(1, 2, [3, ABSENT, ABSENT]),
+            node(3, 0, [12, 22, 21]),
+            node(2, 0, [20, 19, ABSENT]),
+            node(1, 3, [10, ABSENT, ABSENT]),
         ],
     )
 }
@@ -119,29 +101,29 @@ fn nested_iterators(rt: HostRuntime) -> Result<(), Fail> {
         &rt,
         b"((\\f:(N>N).\\a:N.iter 1 \\y:N.iter 2 f y a \\x:N.S x) 5)",
         &[
-            (0, 0, [4, NONE, NONE]),
-            (3, 0, [7, 0, 66]),
-            (3, 0, [9, 3, 60]),
-            (3, 0, [6, 12, 54]),
-            (3, 0, [10, 16, 57]),
-            (4, 0, [27, 13, 19]),
-            (5, 0, [21, 17, 26]),
-            (6, 0, [18, 58, 25]),
-            (3, 0, [30, 23, 20]),
-            (1, 1, [15, NONE, NONE]),
-            (3, 0, [24, 34, 51]),
-            (4, 0, [45, 31, 37]),
-            (5, 0, [39, 35, 44]),
-            (6, 0, [36, 52, 43]),
-            (3, 0, [49, 41, 38]),
-            (1, 2, [33, NONE, NONE]),
-            (7, 2, [55, 42, NONE]),
-            (7, 2, [32, 40, NONE]),
-            (7, 1, [11, 48, NONE]),
-            (7, 1, [14, 22, NONE]),
-            (3, 0, [8, 64, 63]),
-            (2, 0, [62, 61, NONE]),
-            (1, 5, [5, NONE, NONE]),
+            node(0, 0, [4, ABSENT, ABSENT]),
+            node(3, 0, [7, 0, 66]),
+            node(3, 0, [9, 3, 60]),
+            node(3, 0, [6, 12, 54]),
+            node(3, 0, [10, 16, 57]),
+            node(4, 0, [27, 13, 19]),
+            node(5, 0, [21, 17, 26]),
+            node(6, 0, [18, 58, 25]),
+            node(3, 0, [30, 23, 20]),
+            node(1, 1, [15, ABSENT, ABSENT]),
+            node(3, 0, [24, 34, 51]),
+            node(4, 0, [45, 31, 37]),
+            node(5, 0, [39, 35, 44]),
+            node(6, 0, [36, 52, 43]),
+            node(3, 0, [49, 41, 38]),
+            node(1, 2, [33, ABSENT, ABSENT]),
+            node(7, 2, [55, 42, ABSENT]),
+            node(7, 2, [32, 40, ABSENT]),
+            node(7, 1, [11, 48, ABSENT]),
+            node(7, 1, [14, 22, ABSENT]),
+            node(3, 0, [8, 64, 63]),
+            node(2, 0, [62, 61, ABSENT]),
+            node(1, 5, [5, ABSENT, ABSENT]),
         ],
     )
 }
@@ -156,7 +138,7 @@ fn few_cells(rt: HostRuntime) -> Result<(), Fail> {
         place: 0,
     };
     assert_eq!(rt; builder.build(b"S 3", &mut cells), Err(refusal));
-    assert!(rt; agree(&cells, &[]));
+    assert_eq!(rt; cells, [DUST; 2]);
     Ok(())
 }
 
@@ -169,6 +151,6 @@ fn ill_typed(rt: HostRuntime) -> Result<(), Fail> {
         place: 2,
     };
     assert_eq!(rt; builder.build(b"S (3 4)", &mut cells), Err(refusal));
-    assert!(rt; agree(&cells, &[]));
+    assert_eq!(rt; cells, [DUST; 2]);
     Ok(())
 }

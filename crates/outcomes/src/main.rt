@@ -1,11 +1,9 @@
 // Tells how many programs end: texts on standard input, one to a line, and for each the last line of its listing, or its refusal.
 #![tactic(auto)]
 
-ghost use Rattle.std.specs.Prelude.{◌≤◌, length, IfOk};
-
 use anyhow::anyhow;
 use input::read_up_to;
-use lab::{Reserve, line_buffer, open, show_outcome, show_text};
+use lab::{Reserve, line_buffer, open, show_outcome};
 use machine::Walk;
 use network::Builder;
 use std::io::{BufWriter, Write};
@@ -14,20 +12,23 @@ use token::DataCell;
 // The most bytes that are read.
 const MOST: u64 = 16_777_216;
 
-// Writes how the program of one text ends to the front of the line, and returns the length.
-fn tell(
+// Writes how the program of one text ends, or why the text is refused.
+fn tell<W: Write>(
+    out: &mut W,
     builder: &mut Builder,
     reserve: &mut Reserve,
     text: &[u8],
     line: &mut [u8],
-) -> anyhow::Result<usize>
-    ensures { IfOk result (λ n. n ≤ length line.new) }
-{
-    let shown = match open(builder, text, reserve.lend(), DataCell::Question) {
-        Ok(token) => show_outcome(&mut Walk::new(token), line),
-        Err(refused) => show_text(&refused, line),
-    };
-    shown.map_err(|_| anyhow!("a line is longer than the buffer"))
+) -> anyhow::Result<()> {
+    match open(builder, text, reserve.lend(), DataCell::Question) {
+        Ok(token) => {
+            let n = show_outcome(&mut Walk::new(token), line)
+                .map_err(|_| anyhow!("a line is longer than the buffer"))?;
+            out.write_all(&line[0..n])?;
+        }
+        Err(refused) => writeln!(out, "{}", refused.refusal)?,
+    }
+    Ok(())
 }
 
 fn tell_all<W: Write>(out: &mut W, rt: &HostRuntime, texts: &[u8]) -> anyhow::Result<()> {
@@ -37,8 +38,7 @@ fn tell_all<W: Write>(out: &mut W, rt: &HostRuntime, texts: &[u8]) -> anyhow::Re
     let mut line = line_buffer(heap)?;
     for ended in texts.split_inclusive(|b| *b == b'\n') {
         let text = ended.strip_suffix(b"\n").unwrap_or(ended);
-        let n = tell(&mut builder, &mut reserve, text, &mut line)?;
-        out.write_all(&line[0..n])?;
+        tell(out, &mut builder, &mut reserve, text, &mut line)?;
     }
     Ok(())
 }

@@ -11,9 +11,6 @@ front (b ∷ s) h = ap (λ r. b ∷ r) (sym (take_all (length (b ∷ s) - 1) s (
 pub front_at : (s : List ℕ) (b : ℕ) → 1 ≤ length s → get_or s 0 0 ≡ b → b ∷ take (length s - 1) (drop 1 s) ≡ s
 front_at s b h e = ap (λ v. v ∷ take (length s - 1) (drop 1 s)) (sym e) ∙ sym (front s h)
 
-pub skip_on : (s : List ℕ) → 1 ≤ length s → blank (get_or s 0 0) ≡ true → skipped (take (length s - 1) (drop 1 s)) ≡ skipped s
-skip_on s h e = sym (ap skipped (front s h) ∙ ap (λ v. cond v (skipped (take (length s - 1) (drop 1 s))) (get_or s 0 0 ∷ take (length s - 1) (drop 1 s))) e)
-
 pub skip_off : (s : List ℕ) → (1 ≤ length s → blank (get_or s 0 0) ≡ false) → skipped s ≡ s
 skip_off [] e = refl
 skip_off (b ∷ s) e = ap (λ v. cond v (skipped s) (b ∷ s)) (e (omega arith))

@@ -2,9 +2,9 @@ pub mod Examples
 pub mod Lexing
 pub mod Scanning
 pub mod TypeSteps
+mod Order
 pub mod NameSteps
 pub mod FirstSteps
-pub mod HeadSteps
 pub mod TermSteps
 pub mod ReadSteps
 pub mod Readings

@@ -1,81 +1,68 @@
--- What the functions on names do, step by step.
-use Rattle.std.proofs.Common.{◌≡◌, ℕ, zero, suc, ◌<◌, Bool, true, false, cond, ◌||◌, List, [], ◌∷◌, ◌++◌, map, length, get_or, take, drop, Some, None, Option, refl, ap, arith}
+-- What the methods on names do, step by step.
+use Rattle.std.proofs.Common.{◌≡◌, ℕ, zero, suc, ◌+◌, ◌<◌, Bool, true, false, not, cond, ◌||◌, List, [], ◌∷◌, map, length, get_or, set, Some, None, Option, sym, refl, ap, ◌∙◌, arith, All}
 use Rattle.std.specs.Str.{bytes_eq}
-use Rattle.syntax.specs.declared.refusal.Fault.TheVariants.{Unused}
+use Rattle.std.specs.List.{AllWithin, HoldsAt, list_any, filter, fold}
+use Rattle.std.proofs.lemmas.List.{get_or-map}
+use lib.Seq.{map-set}
+use Rattle.std.proofs.lemmas.List.Elements.{All-head, All-tail}
+use Rattle.arrayvec.specs.ArrayVec.{ArrayVec}
+use Rattle.syntax.specs.declared.scope.InForce.{InForce as HeldForce}
+use Rattle.syntax.specs.declared.refusal.Fault.TheVariants.{Unused, UsedTwice}
 use Rattle.syntax.specs.declared.refusal.Refusal.{Refusal}
 use Rattle.syntax.specs.Trees.{Name}
 use Rattle.syntax.specs.Names.{among, fault, sooner, binder_of}
-use Rattle.syntax.specs.Scopes.{InForce, found, unused, nobody}
-use Rattle.syntax.specs.Held.{binders_of}
+use Rattle.syntax.specs.Scopes.{found, unused, nobody, use_at, occur}
+use Rattle.syntax.specs.Held.{spelled, name_in_force, binders_of}
 
-pub drop-map : {X Y : Type 0} (f : X → Y) (n : ℕ) (xs : List X) → drop n (map f xs) ≡ map f (drop n xs)
-drop-map f zero xs = refl
-drop-map f (suc n) [] = refl
-drop-map f (suc n) (x ∷ xs) = drop-map f n xs
+-- the search over the names bound so far
+pub among_any : (w : Name) (xs : List (ArrayVec ℕ)) → list_any (λ x. bytes_eq w (spelled x)) xs ≡ among w (map spelled xs)
+among_any w [] = refl
+among_any w (x ∷ xs) = ap (λ r. bytes_eq w (spelled x) || r) (among_any w xs)
 
-pub take-map : {X Y : Type 0} (f : X → Y) (n : ℕ) (xs : List X) → take n (map f xs) ≡ map f (take n xs)
-take-map f zero xs = refl
-take-map f (suc n) [] = refl
-take-map {Y = Y} f (suc n) (x ∷ xs) = ap (λ (r : List Y). f x ∷ r) (take-map f n xs)
+-- the names in force, where none is spelled so
+module _ (w : Name) where
+  abbrev pub Other : HeldForce → Type 0
+  Other x = bytes_eq w (spelled x.name) ≡ false
 
-pub among_hit : (w : Name) (xs : List Name) (i : ℕ) → i < length xs → bytes_eq w (get_or xs i []) ≡ true → among w xs ≡ true
-among_hit w [] i h e = absurd (omega arith)
-among_hit w (x ∷ xs) zero h e = rw e refl
-among_hit w (x ∷ xs) (suc i) h e = go (bytes_eq w x) (among_hit w xs i (omega arith) e)
+  pub found_none : (xs : List HeldForce) → All Other xs → found w (map name_in_force xs) ≡ None
+  found_none [] none = refl
+  found_none (x ∷ xs) none = rw (found_none xs (All-tail Other x xs none), All-head Other x xs none) refl
+
+  pub binder_none : (xs : List HeldForce) (p : ℕ) → All Other xs → binder_of w (binders_of (map name_in_force xs)) p ≡ p
+  binder_none [] p none = refl
+  binder_none (x ∷ xs) p none = rw (All-head Other x xs none, binder_of) (binder_none xs p (All-tail Other x xs none))
+
+  -- where the last that is spelled so is number i
+  abbrev pub IsLast : List HeldForce → ℕ → Type 0
+  IsLast xs i = (i < length xs) × HoldsAt (λ x. bytes_eq w (spelled x.name) ≡ true) xs i × AllWithin Other xs (i + 1) (length xs)
+
+  later : (x : HeldForce) (xs : List HeldForce) → IsLast (x ∷ xs) 0 → All Other xs
+  later x xs h k d g = h.2 (suc k) d (omega arith) (omega (arith, g))
+
+  next : (x : HeldForce) (xs : List HeldForce) (i : ℕ) → IsLast (x ∷ xs) (suc i) → IsLast xs i
+  next x xs i h = (omega (arith, h.0), h.1, λ k d f g. h.2 (suc k) d (omega (arith, f)) (omega (arith, g)))
+
+  pub found_last : (xs : List HeldForce) (i : ℕ) → IsLast xs i → found w (map name_in_force xs) ≡ Some i
+  found_last [] i h = absurd (omega (arith, h.0))
+  found_last (x ∷ xs) zero h = rw (found_none xs (later x xs h), h.1 x) refl
+  found_last (x ∷ xs) (suc i) h = rw (found_last xs i (next x xs i h)) refl
+
+  pub binder_last : (xs : List HeldForce) (i p : ℕ) (d : HeldForce) → IsLast xs i → binder_of w (binders_of (map name_in_force xs)) p ≡ (get_or xs i d).place
+  binder_last [] i p d h = absurd (omega (arith, h.0))
+  binder_last (x ∷ xs) zero p d h = rw (h.1 x, binder_of) (binder_none xs x.place (later x xs h))
+  binder_last (x ∷ xs) (suc i) p d h = binder_last xs i (cond (bytes_eq w (spelled x.name)) x.place p) d (next x xs i h)
+
+-- a name occurs, which is number i of those in force
+pub occur_at : (p : ℕ) (w : Name) (bound : List Name) (xs : List HeldForce) (f : Option Refusal) (i : ℕ) (x : HeldForce) → IsLast w xs i → x ≡ get_or xs i x → occur p w (record { bound = bound; force = map name_in_force xs; least = f }) ≡ cond x.used (record { bound = bound; force = map name_in_force xs; least = sooner (fault UsedTwice p) f }) (record { bound = bound; force = map name_in_force (set xs i (record { place = x.place; name = x.name; used = true })); least = f })
+occur_at p w bound xs f i x h e =
+    let at : get_or (map name_in_force xs) i nobody ≡ name_in_force x = get_or-map name_in_force xs i x nobody h.0 ∙ ap name_in_force (sym e) in
+    rw (found_last w xs i h, occur, use_at, at, map-set name_in_force xs i (record { place = x.place; name = x.name; used = true })) refl
+
+-- the names that go out of force
+pub unused_fold : (xs : List HeldForce) (f : Option Refusal) → fold (λ g x. sooner (fault Unused x.place) g) f (filter (λ x. not x.used) xs) ≡ unused (map name_in_force xs) f
+unused_fold [] f = refl
+unused_fold (x ∷ xs) f = go x.used refl (unused_fold xs)
   where
-    go : (v : Bool) → among w xs ≡ true → (v || among w xs) ≡ true
-    go true a = refl
-    go false a = a
-
-pub among-push : (w : Name) (xs : List Name) (x : Name) → among w xs ≡ false → bytes_eq w x ≡ false → among w (xs ++ (x ∷ [])) ≡ false
-among-push w [] x a e = rw e refl
-among-push w (y ∷ xs) x a e = go (bytes_eq w y) refl (among-push w xs x)
-  where
-    go : (v : Bool) → bytes_eq w y ≡ v → (among w xs ≡ false → bytes_eq w x ≡ false → among w (xs ++ (x ∷ [])) ≡ false) → (bytes_eq w y || among w (xs ++ (x ∷ []))) ≡ false
-    go true h ih = let z : true ≡ false = rw h at a in let k : ◌≡◌ {A = ℕ} 0 1 = cc in absurd (omega arith)
-    go false h ih = let z : among w xs ≡ false = rw h at a in rw h (ih z e)
-
--- the search from the innermost name
-pub found_none : (w : Name) (x : InForce) (xs : List InForce) → found w xs ≡ None → bytes_eq w x.binder.name ≡ false → found w (x ∷ xs) ≡ None
-found_none w x xs n e = rw (n, e) refl
-
-pub found_at : (w : Name) (xs : List InForce) (i : ℕ) → i < length xs → found w (drop (suc i) xs) ≡ None → bytes_eq w (get_or xs i nobody).binder.name ≡ true → found w xs ≡ Some i
-found_at w [] i h n e = absurd (omega arith)
-found_at w (x ∷ xs) zero h n e = rw (n, e) refl
-found_at w (x ∷ xs) (suc i) h n e = rw (found_at w xs i (omega arith) n e) refl
-
-pub found_within : (w : Name) (xs : List InForce) (i : ℕ) → found w xs ≡ Some i → i < length xs
-found_within w [] i e = let z : ◌≡◌ {A = ℕ} 0 1 = cc in absurd (omega arith)
-found_within w (x ∷ xs) i e = go (found w xs) refl (found_within w xs)
-  where
-    last : (v : Bool) → cond v (Some 0) None ≡ Some i → i < suc (length xs)
-    last true h = let k : ◌≡◌ {A = ℕ} 0 i = cc in omega arith
-    last false h = let z : ◌≡◌ {A = ℕ} 0 1 = cc in absurd (omega arith)
-
-    go : (o : Option ℕ) → found w xs ≡ o → ((j : ℕ) → found w xs ≡ Some j → j < length xs) → i < suc (length xs)
-    go (Some j) h ih = let k : Some (suc j) ≡ Some i = rw h at e in let l : suc j ≡ i = cc in let m = ih j h in omega arith
-    go None h ih = last (bytes_eq w x.binder.name) (rw h at e)
-
--- the binder of a name that is found, and of one that is not
-pub binder_none : (w : Name) (xs : List InForce) (p : ℕ) → found w xs ≡ None → binder_of w (binders_of xs) p ≡ p
-binder_none w [] p e = refl
-binder_none w (x ∷ xs) p e = go (found w xs) refl (bytes_eq w x.binder.name) refl (binder_none w xs)
-  where
-    go : (o : Option ℕ) → found w xs ≡ o → (v : Bool) → bytes_eq w x.binder.name ≡ v → ((q : ℕ) → found w xs ≡ None → binder_of w (binders_of xs) q ≡ q) → binder_of w (binders_of xs) (cond (bytes_eq w x.binder.name) x.binder.place p) ≡ p
-    go (Some j) h v k ih = let z : Some (suc j) ≡ None = rw h at e in let y : ◌≡◌ {A = ℕ} 0 1 = cc in absurd (omega arith)
-    go None h true k ih = let z : Some 0 ≡ None = rw (h, k) at e in let y : ◌≡◌ {A = ℕ} 0 1 = cc in absurd (omega arith)
-    go None h false k ih = rw k (ih p h)
-
-pub binder-found : (w : Name) (xs : List InForce) (i p : ℕ) → found w xs ≡ Some i → binder_of w (binders_of xs) p ≡ (get_or xs i nobody).binder.place
-binder-found w [] i p e = let z : ◌≡◌ {A = ℕ} 0 1 = cc in absurd (omega arith)
-binder-found w (x ∷ xs) i p e = go (found w xs) refl (bytes_eq w x.binder.name) refl (binder-found w xs)
-  where
-    go : (o : Option ℕ) → found w xs ≡ o → (v : Bool) → bytes_eq w x.binder.name ≡ v → ((j q : ℕ) → found w xs ≡ Some j → binder_of w (binders_of xs) q ≡ (get_or xs j nobody).binder.place) → binder_of w (binders_of xs) (cond (bytes_eq w x.binder.name) x.binder.place p) ≡ (get_or (x ∷ xs) i nobody).binder.place
-    go (Some j) h v k ih = let z : Some (suc j) ≡ Some i = rw h at e in let l : suc j ≡ i = cc in rw (← l) (ih j (cond (bytes_eq w x.binder.name) x.binder.place p) h)
-    go None h true k ih = let z : Some 0 ≡ Some i = rw (h, k) at e in let l : 0 ≡ i = cc in rw (k, ← l) (binder_none w xs x.binder.place h)
-    go None h false k ih = let z : None ≡ Some i = rw (h, k) at e in let y : ◌≡◌ {A = ℕ} 0 1 = cc in absurd (omega arith)
-
--- one more name that goes out of force
-pub unused-push : (xs : List InForce) (x : InForce) (f : Option Refusal) → unused (xs ++ (x ∷ [])) f ≡ cond x.used (unused xs f) (sooner (fault Unused x.binder.place) (unused xs f))
-unused-push [] x f = refl
-unused-push (y ∷ xs) x f = unused-push xs x (cond y.used f (sooner (fault Unused y.binder.place) f))
+    go : (v : Bool) → x.used ≡ v → ((g : Option Refusal) → fold (λ g y. sooner (fault Unused y.place) g) g (filter (λ y. not y.used) xs) ≡ unused (map name_in_force xs) g) → fold (λ g y. sooner (fault Unused y.place) g) f (filter (λ y. not y.used) (x ∷ xs)) ≡ unused (map name_in_force xs) (cond x.used f (sooner (fault Unused x.place) f))
+    go true e ih = rw e (ih f)
+    go false e ih = rw e (ih (sooner (fault Unused x.place) f))

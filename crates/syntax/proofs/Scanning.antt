@@ -1,22 +1,23 @@
 -- What reading gives at one sign, by the bytes that stand there.
 use Rattle.std.proofs.Common.{◌≡◌, ℕ, zero, suc, ◌+◌, ◌-◌, ◌*◌, ◌<◌, ◌≤◌, Bool, true, false, cond, not, ◌&&◌, eqb, leb, List, [], ◌∷◌, ◌++◌, length, get_or, take, drop, codes, refl, ap, ◌∙◌, arith}
+use Rattle.std.specs.List.{prefix_len}
 use Rattle.std.proofs.lemmas.Slice.Eq.{bytes_eq-Decides}
 use Rattle.std.proofs.lemmas.List.{take_more}
 use Rattle.std.proofs.lemmas.Bool.{eq-eqb, ne_eqb, and_parts, leb-true}
-use Rattle.std.proofs.lemmas.Bool.Decides.{nat_tests}
 use Rattle.syntax.specs.declared.refusal.Fault.TheVariants.{WrongSign}
 use Rattle.syntax.specs.Signs.{Sign, word, digits, mark, Placed, letter, digit, lex, is_let, is_in, is_iter, is_name, is_number, number_after, number_of}
 use Rattle.syntax.specs.Parse.{got, refuse, expect, is_mark, is_word_in, binder}
 use Rattle.syntax.specs.Steps.{skipped, run}
 use Rattle.syntax.proofs.Lexing.{first_sign, after_first, signs_from, signs_none}
 
--- the longest front, once n bytes of the kind were passed and the next is none
-pub run_is : (kind : ℕ → Bool) (s : List ℕ) (n : ℕ) → n ≤ length s → ((k : ℕ) → k < n → kind (get_or s k 0) ≡ true) → (n < length s → kind (get_or s n 0) ≡ false) → run kind s ≡ n
-run_is kind [] n short all stop = omega arith
-run_is kind (b ∷ s) zero short all stop = let e : kind b ≡ false = stop (omega arith) in rw e
-run_is kind (b ∷ s) (suc n) short all stop =
-    let e : kind b ≡ true = all 0 (omega arith) in
-    rw e (ap suc (run_is kind s n (omega arith) (λ k h. all (suc k) (omega arith)) (λ h. stop (omega arith))))
+-- how many bytes std counts at the front
+pub run_is : (kind : ℕ → Bool) (s : List ℕ) → prefix_len kind s ≡ run kind s
+run_is kind [] = refl
+run_is kind (b ∷ s) = let e = run_is kind s in rw e (go (kind b))
+  where
+    go : (v : Bool) → cond v (1 + run kind s) 0 ≡ cond v (suc (run kind s)) 0
+    go true = omega arith
+    go false = refl
 
 -- every byte of the front is of the kind
 pub run_all : (kind : ℕ → Bool) (s : List ℕ) (k : ℕ) → k < length (take (run kind s) s) → kind (get_or (take (run kind s) s) k 0) ≡ true
@@ -100,14 +101,6 @@ module _ (end : ℕ) (text : List ℕ) where
       go true l = let g : is_name (take (run letter (b ∷ u)) (b ∷ u)) ≡ false = n (rw l (omega arith)) in rw (word_here b u e l, g)
       go false l = rw (signs_from end text (b ∷ u) u b e refl) (binder_other (end - length (b ∷ u)) b u (lex end (after_first b u)) l)
 
--- a run of letters that is none of the words
-pub name_by_length : (w : List ℕ) → (w ≡ codes "let" → ⊥) → (w ≡ codes "in" → ⊥) → (w ≡ codes "iter" → ⊥) → is_name w ≡ leb (length w) 16
-name_by_length w a b c =
-    let x : is_let w ≡ false = grind (arith, bytes_eq-Decides w (codes "let"), a) in
-    let y : is_in w ≡ false = grind (arith, bytes_eq-Decides w (codes "in"), b) in
-    let z : is_iter w ≡ false = grind (arith, bytes_eq-Decides w (codes "iter"), c) in
-    simp (x, y, z) (grind (arith, nat_tests))
-
 -- digits: a number grows with each of them
 pub number_ge : (ds : List ℕ) (n : ℕ) → n ≤ number_after n ds
 number_ge [] n = omega arith
@@ -131,11 +124,6 @@ pub plain-number : (ds : List ℕ) → 1 ≤ length ds → (2 ≤ length ds → 
 plain-number [] h ne = absurd (omega arith)
 plain-number (d ∷ []) h ne = refl
 plain-number (d ∷ e ∷ ds) h ne = let n = ne_eqb d 48 (ne (omega arith)) in rw n
-
-pub leading_zero : (ds : List ℕ) → 2 ≤ length ds → get_or ds 0 0 ≡ 48 → is_number ds ≡ false
-leading_zero [] h e = absurd (omega arith)
-leading_zero (d ∷ []) h e = absurd (omega arith)
-leading_zero (d ∷ x ∷ ds) h e = let n = eq-eqb d 48 e in rw n
 
 pub name_short : (w : List ℕ) → is_name w ≡ true → length w ≤ 16
 name_short w e = let p = and_parts (leb (length w) 16) (not (is_let w) && (not (is_in w) && not (is_iter w))) e in leb-true (length w) 16 p.0

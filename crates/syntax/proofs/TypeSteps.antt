@@ -1,17 +1,16 @@
 -- What reading a type gives, step by step.
-use Rattle.std.proofs.Common.{◌≡◌, ℕ, suc, ◌+◌, ◌-◌, ◌<◌, ◌≤◌, Bool, true, false, ltb, ◌⊎◌, List, [], ◌∷◌, ◌++◌, length, get_or, take, drop, Ok, Result, sym, refl, ap, ◌∙◌, subst, subst₂, inl, inr, arith, length-append, Bor}
+use Rattle.std.proofs.Common.{◌≡◌, ℕ, suc, ◌+◌, ◌-◌, ◌<◌, ◌≤◌, Bool, true, false, ltb, ◌⊎◌, List, [], ◌∷◌, length, get_or, take, drop, refl, ap, ◌∙◌, inl, inr, arith, length-append, vec_items}
 use Rattle.std.proofs.lemmas.Bool.{ne_eqb, cases_lt}
 use Rattle.std.proofs.lemmas.Bool.Decides.{nat_tests}
 use Rattle.calculus.specs.Types.{Ty, N}
 use Rattle.syntax.specs.declared.refusal.Fault.TheVariants.{WrongSign, PassedLimit}
-use Rattle.syntax.specs.declared.program.TypeCell.{TypeCell}
 use Rattle.syntax.specs.declared.program.TypeCell.TheVariants as cell
 use Rattle.syntax.specs.declared.signs.Joint.{Joint}
 use Rattle.syntax.specs.declared.signs.Joint.TheVariants.{Arrow, Product}
 use Rattle.syntax.specs.Signs.{word, digits, mark, Placed, letter, digit, lex}
-use Rattle.syntax.specs.Parse.{Out, got, refused, refuse, limited, expect, is_mark, joint, join, joined, TypeReader, type_by, type}
-use Rattle.syntax.specs.declared.refusal.Refusal.{Refusal}
-use Rattle.syntax.specs.Steps.{skipped, run, Gives, cell_of, TypeHeld}
+use Rattle.syntax.specs.Parse.{Out, got, refuse, limited, joint, join, joined, TypeReader, type_by, type}
+use Rattle.syntax.specs.declared.tables.Program.{Program}
+use Rattle.syntax.specs.Steps.{skipped, run, cell_of, IsTypePut, TypeHeld}
 use Rattle.syntax.proofs.Lexing.{front_at, first_sign, after_first, signs_from, signs_none}
 use Rattle.syntax.proofs.Scanning.{mark_here}
 
@@ -97,71 +96,18 @@ module _ (end : ℕ) (text rest : List ℕ) (e : rest ≡ skipped text) where
       go (inl d) = type_down end depth n (lex end text) d ∙ by_other true (type end (64 - (depth + 1))) n ne
       go (inr d) = type_bottom end depth n (lex end text) d ∙ by_other false (λ m r. refuse WrongSign end) n ne
 
--- the same answer, where it is to be shown of another form
-pub gives_by : {X Y : Type 0} (end : ℕ) (R : X → Y → Type 0) (o o' : Out X) (r : Result (Y × Bor (List ℕ)) Refusal) → o ≡ o' → Gives end R o' r → Gives end R o r
-gives_by end R o o' r e g = subst (λ (q : Out _). Gives end R q r) (sym e) g
-
--- the parts in brackets, one by one
-module _ (end : ℕ) (part : TypeReader) (n : ℕ) (s : List Placed) {a : Ty × ℕ} {s₁ : List Placed} (e₁ : part n s ≡ got a s₁) {n₁ : ℕ} (c₁ : a.1 ≡ n₁) where
-  stops_at_joint : {f : Refusal} → joint end n₁ s₁ ≡ refused f → joined end part n s ≡ refused f
-  stops_at_joint {f} x = let y : joint end a.1 s₁ ≡ refused f = rw c₁ x in rw (e₁, y) refl
-
-  module _ {j : Joint} {s₂ : List Placed} (e₂ : joint end n₁ s₁ ≡ got j s₂) {n₂ : ℕ} (c₂ : suc n₁ ≡ n₂) where
-    y₂ : joint end a.1 s₁ ≡ got j s₂
-    y₂ = rw c₁ e₂
-
-    c₃ : suc a.1 ≡ n₂
-    c₃ = ap suc c₁ ∙ c₂
-
-    stops_at_second : {f : Refusal} → part n₂ s₂ ≡ refused f → joined end part n s ≡ refused f
-    stops_at_second {f} x = let y : part (suc a.1) s₂ ≡ refused f = rw c₃ x in rw (e₁, y₂, y) refl
-
-    module _ {b : Ty × ℕ} {s₃ : List Placed} (e₃ : part n₂ s₂ ≡ got b s₃) where
-      y₃ : part (suc a.1) s₂ ≡ got b s₃
-      y₃ = rw c₃ e₃
-
-      stops_at_close : {f : Refusal} → expect end (is_mark 41) s₃ ≡ refused f → joined end part n s ≡ refused f
-      stops_at_close x = rw (e₁, y₂, y₃, x) refl
-
-      all_parts : {s₄ : List Placed} → expect end (is_mark 41) s₃ ≡ got tt s₄ → joined end part n s ≡ got (join j a.0 b.0, b.1) s₄
-      all_parts x = rw (e₁, y₂, y₃, x) refl
-
 -- the cells of a type that is put together from two
-pub held-join : (j : Joint) (more : ℕ) (old mid late : List TypeCell) (a b : Ty × ℕ) (i k : ℕ) → TypeHeld more old mid a i → TypeHeld (more + 1) mid late b k → TypeHeld more old (late ++ (cell_of j i k ∷ [])) (join j a.0 b.0, b.1) (length late)
-held-join Arrow more old mid late a b i k x y =
-    record { put = cc (x.put, x.at, y.put, y.at); at = omega (arith, length-append late (cell_of Arrow i k ∷ [])); counted = omega (arith, length-append late (cell_of Arrow i k ∷ []), y.counted); few = y.few }
-held-join Product more old mid late a b i k x y =
-    record { put = cc (x.put, x.at, y.put, y.at); at = omega (arith, length-append late (cell_of Product i k ∷ [])); counted = omega (arith, length-append late (cell_of Product i k ∷ []), y.counted); few = y.few }
+pub held-join : (j : Joint) (more : ℕ) (old mid late new : Program) (a b : Ty × ℕ) (i k l : ℕ) → TypeHeld more old mid a i → TypeHeld (more + 1) mid late b k → IsTypePut (cell_of j i k) late new l → TypeHeld more old new (join j a.0 b.0, b.1) l
+held-join Arrow more old mid late new a b i k l x y z =
+    let e = z.types in
+    let n = ap length e ∙ length-append (vec_items late.types) (cell_of Arrow i k ∷ []) in
+    record { put = cc (x.put, x.at, y.put, y.at); at = omega (arith, z.at); counted = omega (arith, y.counted); few = y.few; subterms = cc (x.subterms, y.subterms, z.subterms) }
+held-join Product more old mid late new a b i k l x y z =
+    let e = z.types in
+    let n = ap length e ∙ length-append (vec_items late.types) (cell_of Product i k ∷ []) in
+    record { put = cc (x.put, x.at, y.put, y.at); at = omega (arith, z.at); counted = omega (arith, y.counted); few = y.few; subterms = cc (x.subterms, y.subterms, z.subterms) }
 
--- the same in the words of the contracts; `count` cells stand after the first part
-module _ (end depth more : ℕ) (old mid : List TypeCell) (text : List ℕ) (r₁ : ℕ × Bor (List ℕ)) (count : ℕ) (is : count ≡ length mid) (x : Gives end (TypeHeld more old mid) (type end (64 - depth) (length old + more) (lex end text)) (Ok r₁)) where
-  abbrev Brackets : Out (Ty × ℕ)
-  Brackets = joined end (type end (64 - depth)) (length old + more) (lex end text)
-
-  counted : x.0.1 ≡ count + more
-  counted = omega (arith, x.2.counted)
-
-  pub joint_stops : {f : Refusal} → joint end (count + more) (lex end r₁.1.now) ≡ refused f → Brackets ≡ refused f
-  joint_stops e = stops_at_joint end (type end (64 - depth)) (length old + more) (lex end text) x.1 counted e
-
-  module _ (r₂ : Joint × Bor (List ℕ)) (j : Gives end (λ (j k : Joint). j ≡ k) (joint end (count + more) (lex end r₁.1.now)) (Ok r₂)) where
-    joint_read : joint end (count + more) (lex end r₁.1.now) ≡ got r₂.0 (lex end r₂.1.now)
-    joint_read = j.1 ∙ ap (λ (k : Joint). got k (lex end r₂.1.now)) j.2
-
-    next : suc (count + more) ≡ length mid + (more + 1)
-    next = omega arith
-
-    pub second_stops : {f : Refusal} → type end (64 - depth) (length mid + (more + 1)) (lex end r₂.1.now) ≡ refused f → Brackets ≡ refused f
-    second_stops e = stops_at_second end (type end (64 - depth)) (length old + more) (lex end text) x.1 counted joint_read next e
-
-    module _ (late : List TypeCell) (r₃ : ℕ × Bor (List ℕ)) (y : Gives end (TypeHeld (more + 1) mid late) (type end (64 - depth) (length mid + (more + 1)) (lex end r₂.1.now)) (Ok r₃)) where
-      pub close_stops : {f : Refusal} → expect end (is_mark 41) (lex end r₃.1.now) ≡ refused f → Brackets ≡ refused f
-      close_stops e = stops_at_close end (type end (64 - depth)) (length old + more) (lex end text) x.1 counted joint_read next y.1 e
-
-      pub brackets_read : (new : List TypeCell) (i : ℕ) (r₄ : Bor (List ℕ)) → expect end (is_mark 41) (lex end r₃.1.now) ≡ got tt (lex end r₄.now) → new ≡ late ++ (cell_of r₂.0 r₁.0 r₃.0 ∷ []) → i ≡ length late → Gives end (TypeHeld more old new) Brackets (Ok (i, r₄))
-      brackets_read new i r₄ e put at =
-          let T : Ty × ℕ = (join r₂.0 x.0.0 y.0.0, y.0.1) in
-          (T, all_parts end (type end (64 - depth)) (length old + more) (lex end text) x.1 counted joint_read next y.1 e, subst₂ (λ (cells : List TypeCell) (k : ℕ). TypeHeld more old cells T k) (sym put) (sym at) (held-join r₂.0 more old mid late x.0 y.0 r₁.0 r₃.0 x.2 y.2))
-
-pub held_n : (more : ℕ) (old : List TypeCell) → length old + more < 2048 → TypeHeld more old (old ++ (cell.N ∷ [])) (N, suc (length old + more)) (length old)
-held_n more old h = record { put = refl; at = omega (arith, length-append old (cell.N ∷ [])); counted = omega (arith, length-append old (cell.N ∷ [])); few = omega arith }
+pub held_n : (more : ℕ) (old new : Program) (i : ℕ) → length (vec_items old.types) + more < 2048 → IsTypePut cell.N old new i → TypeHeld more old new (N, suc (length (vec_items old.types) + more)) i
+held_n more old new i h z =
+    let n = ap length z.types ∙ length-append (vec_items old.types) (cell.N ∷ []) in
+    record { put = z.types; at = omega (arith, z.at); counted = omega arith; few = omega arith; subterms = z.subterms }

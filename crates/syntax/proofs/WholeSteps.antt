@@ -1,9 +1,10 @@
 -- What reading a whole text gives, step by step.
-use Rattle.std.proofs.Common.{◌≡◌, ℕ, ◌+◌, ◌-◌, ◌<◌, ◌≤◌, List, [], ◌∷◌, length, Some, None, Ok, Err, vec_items, Option, sym, refl, ap, ◌∙◌, arith, Bor}
-use Rattle.std.proofs.lemmas.Bool.{le-leb, lt-leb}
+use Rattle.std.proofs.Common.{◌≡◌, ℕ, ◌+◌, ◌-◌, ◌≤◌, List, [], ◌∷◌, length, Some, None, Ok, Err, vec_items, Option, sym, refl, ap, ◌∙◌, arith}
+use Rattle.std.proofs.lemmas.Bool.{le-leb}
+use Rattle.syntax.specs.declared.names.Rest.{Rest}
 use Rattle.syntax.specs.declared.program.Subterm.{Subterm}
 use Rattle.syntax.specs.declared.program.TypeCell.{TypeCell}
-use Rattle.syntax.specs.declared.refusal.Fault.TheVariants.{TooLong, WrongSign}
+use Rattle.syntax.specs.declared.refusal.Fault.TheVariants.{WrongSign}
 use Rattle.syntax.specs.declared.refusal.Refusal.{Refusal}
 use Rattle.syntax.specs.declared.scope.Scope.{Scope}
 use Rattle.syntax.specs.declared.tables.Program.{Program}
@@ -26,9 +27,6 @@ start end s subs cells o x y h = rw (x, y) at h
 
 pub held_start : (subs₀ : List Subterm) (cells₀ : List TypeCell) (names₀ : Names) (subs : List Subterm) (cells : List TypeCell) (names : Names) (a : Tree Name × ℕ × ℕ) (i : ℕ) → subs₀ ≡ [] → cells₀ ≡ [] → names₀ ≡ no_names → TermHeld 0 subs₀ cells₀ names₀ subs cells names a i → TermHeld 0 [] [] no_names subs cells names a i
 held_start subs₀ cells₀ names₀ subs cells names a i x y z h = rw (x, y, z) at h
-
-pub too_long : (text : List ℕ) → 16384 < length text → reads text ≡ Err (fault TooLong 0)
-too_long text h = let e = lt-leb (length text) 16384 h in rw e refl
 
 module _ (text : List ℕ) (short : length text ≤ 16384) where
   within : reads text ≡ named (whole (length text) (signs_of text))
@@ -61,9 +59,9 @@ module _ (text : List ℕ) (short : length text ≤ 16384) where
           record { tree = t; is = within ∙ ap named all ∙ ap (or_fault a.0) (sym (first-fault a.0) ∙ n); subterms = h.term; types = h.types; at = h.at; few = omega (arith, h.counted, h.few); few_types = omega (arith, h.signs, h.few_signs); denotes = span_denotes t subs cells 0 root spans; spans = spans }
 
 -- a whole text was read into empty memory, and no sign is left: then names are asked
-module _ (text : List ℕ) (short : length text ≤ 16384) (P P₁ : Program) (S S₁ : Scope) (r : ℕ × Bor (List ℕ)) (subs : vec_items P.subterms ≡ []) (cells : vec_items P.types ≡ []) (none : names_of S ≡ no_names) (x : TermRead (length text) 0 P S P₁ S₁ (term (length text) (128 - 0) (begun 0 P) (signed P) (lex (length text) text)) (Ok r)) (over : [] ≡ skipped r.1.now) where
-  read : term (length text) 128 0 0 (lex (length text) text) ≡ got x.gives.0 (lex (length text) r.1.now)
-  read = start (length text) (lex (length text) text) (vec_items P.subterms) (vec_items P.types) (got x.gives.0 (lex (length text) r.1.now)) subs cells x.gives.1
+module _ (text : List ℕ) (short : length text ≤ 16384) (P P₁ : Program) (S S₁ : Scope) (r : ℕ × Rest) (subs : vec_items P.subterms ≡ []) (cells : vec_items P.types ≡ []) (none : names_of S ≡ no_names) (x : TermRead (length text) 0 P S P₁ S₁ (term (length text) (128 - 0) (begun 0 P) (signed P) (lex (length text) text)) (Ok r)) (over : [] ≡ skipped r.1.bytes.now) where
+  read : term (length text) 128 0 0 (lex (length text) text) ≡ got x.gives.0 (lex (length text) r.1.bytes.now)
+  read = start (length text) (lex (length text) text) (vec_items P.subterms) (vec_items P.types) (got x.gives.0 (lex (length text) r.1.bytes.now)) subs cells x.gives.1
 
   held : TermHeld 0 [] [] no_names (vec_items P₁.subterms) (vec_items P₁.types) (names_of S₁) x.gives.0 r.0
   held = held_start (vec_items P.subterms) (vec_items P.types) (names_of S) (vec_items P₁.subterms) (vec_items P₁.types) (names_of S₁) x.gives.0 r.0 subs cells none x.gives.2
@@ -72,7 +70,7 @@ module _ (text : List ℕ) (short : length text ≤ 16384) (P P₁ : Program) (S
   least o e = ap (λ (n : Names). n.least) (sym held.visited) ∙ e
 
   pub all_read : S₁.least ≡ None → Accepted text (vec_items P₁.subterms) (vec_items P₁.types) r.0
-  all_read e = accepted text short x.gives.0 r.1.now read over (vec_items P₁.subterms) (vec_items P₁.types) (names_of S₁) r.0 held (least None e)
+  all_read e = accepted text short x.gives.0 r.1.bytes.now read over (vec_items P₁.subterms) (vec_items P₁.types) (names_of S₁) r.0 held (least None e)
 
   pub misnamed : (f : Refusal) → S₁.least ≡ Some f → reads text ≡ Err f
-  misnamed f e = name_fault_lem text short x.gives.0 r.1.now read over f (least (Some f) e)
+  misnamed f e = name_fault_lem text short x.gives.0 r.1.bytes.now read over f (least (Some f) e)

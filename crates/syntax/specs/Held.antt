@@ -1,14 +1,14 @@
 -- The names that memory holds. Assumes nothing.
-use Rattle.std.specs.Prelude.{List, map, take, vec_items}
-use Rattle.syntax.specs.declared.scope.Name.{Name as HeldName}
+use Rattle.std.specs.Prelude.{ℕ, List, map, vec_items}
+use Rattle.arrayvec.specs.ArrayVec.{ArrayVec}
 use Rattle.syntax.specs.declared.scope.InForce.{InForce as HeldForce}
 use Rattle.syntax.specs.declared.scope.Scope.{Scope as HeldScope}
 use Rattle.syntax.specs.Trees.{Name, Binder}
 use Rattle.syntax.specs.Scopes.{InForce, Names}
 
 -- the letters of a name
-abbrev pub spelled : HeldName → Name
-spelled x = take x.length x.letters
+abbrev pub spelled : ArrayVec ℕ → Name
+spelled x = x.items
 
 abbrev pub name_in_force : HeldForce → InForce
 name_in_force x = record { binder = record { place = x.place; name = spelled x.name }; used = x.used }

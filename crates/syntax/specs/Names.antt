@@ -1,5 +1,5 @@
 -- Names: which binder has which occurrences, and the faults of names. Assumes nothing.
-use Rattle.std.specs.Prelude.{ℕ, Bool, false, cond, ◌&&◌, ◌||◌, List, [], ◌∷◌, ◌++◌, map, Some, None, Option, ◌==◌, nat_lt}
+use Rattle.std.specs.Prelude.{ℕ, Bool, false, cond, ◌&&◌, ◌||◌, List, [], ◌∷◌, ◌++◌, map, Some, None, Option, ◌==◌, nat_lt, codes, decimal}
 use Rattle.std.specs.Str.{bytes_eq}
 use Rattle.syntax.specs.declared.refusal.Fault.{Fault}
 use Rattle.syntax.specs.declared.refusal.Fault.TheVariants.{TooLong, WrongSign, LargeNumber, PassedLimit, Unbound, BoundTwice, UsedTwice, Unused, IllTyped, NoNumber, HighType, FewCells, ManyIterators}
@@ -103,6 +103,10 @@ number NoNumber = 10
 number HighType = 11
 number FewCells = 12
 number ManyIterators = 13
+
+-- how a refusal is told
+abbrev pub refusal_text : Refusal → List ℕ
+refusal_text f = codes "refused=" ++ (decimal (number f.fault) ++ (codes " place=" ++ decimal f.place))
 
 -- does f go before g: by its place, then by its number?
 abbrev pub before : Refusal → Refusal → Bool

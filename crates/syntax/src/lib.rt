@@ -18,36 +18,41 @@ pub mod tables;
 mod terms;
 mod types;
 
+use names::Rest;
 use refusal::{Fault, Refusal};
-use scan::{skip, wrong_sign};
 use scope::Scope;
 use tables::{Program, Tables};
 use terms::term;
 
 const LONGEST: usize = 16_384;
 
-fn forget(program: &mut Program)
-    ensures { (program.new.subterms.items ≡ []) × (program.new.types.items ≡ []) }
-{
-    program.subterms.clear();
-    program.types.clear();
+impl Program {
+    fn clear(&mut self)
+        ensures { (self.new.subterms.items ≡ []) × (self.new.types.items ≡ []) }
+    {
+        self.subterms.clear();
+        self.types.clear();
+    }
 }
 
-fn forget_names(scope: &mut Scope)
-    ensures { names_of scope.new ≡ no_names }
-{
-    scope.bound.clear();
-    scope.in_force.clear();
-    scope.least = None;
+impl Scope {
+    fn clear(&mut self)
+        ensures { names_of self.new ≡ no_names }
+    {
+        self.bound.clear();
+        self.in_force.clear();
+        self.least = None;
+    }
 }
 
-// Reads a whole program into empty tables.
-fn whole(text: &[u8], program: &mut Program, scope: &mut Scope) -> Result<usize, Refusal>
-    requires subterms { program.old.subterms.items ≡ [] }
-    requires types { program.old.types.items ≡ [] }
-    requires names { names_of scope.old ≡ no_names }
-    ensures { Answers text.now program.new.subterms.items program.new.types.items result }
+// Reads a whole program, into tables that are emptied first.
+fn whole(text: &[u8], tables: &mut Tables) -> Result<usize, Refusal>
+    ensures { Answers text.now tables.new.program.subterms.items tables.new.program.types.items result }
 {
+    let program = &mut tables.program;
+    let scope = &mut tables.scope;
+    program.clear();
+    scope.clear();
     let end = text.len();
     if end > LONGEST {
         return Err(Refusal {
@@ -55,10 +60,10 @@ fn whole(text: &[u8], program: &mut Program, scope: &mut Scope) -> Result<usize,
             place: 0,
         });
     }
-    let (root, rest) = term(text, end, 0, program, scope)?;
-    let rest = skip(rest);
-    if !rest.is_empty() {
-        return Err(wrong_sign(end, rest));
+    let (root, rest) = term(Rest { bytes: text, end }, 0, program, scope)?;
+    let rest = rest.skip();
+    if !rest.bytes.is_empty() {
+        return Err(rest.refuse(Fault::WrongSign));
     }
     match scope.least {
         None => Ok(root),
@@ -70,11 +75,9 @@ fn whole(text: &[u8], program: &mut Program, scope: &mut Scope) -> Result<usize,
 pub fn read(text: &[u8], tables: &mut Tables) -> Result<usize, Refusal>
     ensures { ReadAs text.now tables.new.program.subterms.items tables.new.program.types.items result }
 {
-    forget(&mut tables.program);
-    forget_names(&mut tables.scope);
-    let answer = whole(text, &mut tables.program, &mut tables.scope);
+    let answer = whole(text, tables);
     if answer.is_err() {
-        forget(&mut tables.program);
+        tables.program.clear();
     }
     answer
 }

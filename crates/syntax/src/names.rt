@@ -1,3 +1,13 @@
+ghost use Rattle.std.specs.Prelude.{◌≤◌, length};
+
+// What is left of a text, which ends at `end`.
+#[derive(Clone, Copy)]
+pub(crate) struct Rest<'a> {
+    pub bytes: &'a [u8],
+    pub end: usize,
+    ghost within: { length bytes.now ≤ end },
+}
+
 // A name where it is bound: its letters in the text, with the place of the first.
 #[derive(Clone, Copy)]
 pub struct Binder<'a> {
@@ -5,11 +15,10 @@ pub struct Binder<'a> {
     pub name: &'a [u8],
 }
 
-// Where a sub-term begins: the place of its first byte, in a text that ends at `end`, inside `depth` others.
+// Where a sub-term begins: the place of its first byte, inside `depth` others.
 #[derive(Clone, Copy)]
 pub struct Start {
     pub place: usize,
-    pub end: usize,
     pub depth: usize,
 }
 

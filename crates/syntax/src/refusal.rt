@@ -1,8 +1,10 @@
-ghost use Rattle.std.specs.Prelude.{◌≡◌};
-ghost use Rattle.syntax.specs.Names.{number as numbered};
+ghost use Rattle.std.specs.Prelude.{◌≡◌, Some};
+ghost use Rattle.syntax.specs.Names.{number, refusal_text};
+
+use std::fmt;
 
 // The questions that a text is asked, by the numbers of their refusals.
-#[derive(Clone, Copy, PartialEq, Eq, Debug)]
+#[derive(Clone, Copy, PartialEq, Eq, PartialOrd, Ord, Debug)]
 pub enum Fault {
     TooLong = 1,
     WrongSign = 2,
@@ -19,18 +21,28 @@ pub enum Fault {
     ManyIterators = 13,
 }
 
-impl Fault {
-    // The public number of a fault.
-    pub fn number(self) -> u8
-        ensures { result ≡ numbered self }
-    {
-        self as u8
+// The public number of a fault.
+impl From<Fault> for u8 {
+    ghost from_gives = { λ fault n. n ≡ number fault };
+
+    fn from(fault: Fault) -> u8 {
+        fault as u8
     }
 }
 
-// Why a text is refused, and the place in it, counted in bytes from 0.
-#[derive(Clone, Copy, PartialEq, Eq, Debug)]
+// Why a text is refused, and the place in it, counted in bytes from 0. Of two refusals the one that goes first is less.
+#[derive(Clone, Copy, PartialEq, Eq, PartialOrd, Ord, Debug)]
 pub struct Refusal {
-    pub fault: Fault,
     pub place: usize,
+    pub fault: Fault,
+}
+
+impl fmt::Display for Refusal {
+    ghost output = { λ refusal. Some (refusal_text refusal) };
+
+    fn fmt<W: fmt::Write>(&self, f: &mut fmt::Formatter<W>) -> fmt::Result {
+        let number = u8::from(self.fault);
+        let place = self.place;
+        write!(f, "refused={number} place={place}")
+    }
 }

@@ -1,29 +1,43 @@
 ghost use Rattle.std.specs.Prelude.{◌≤◌, vec_capacity};
 
 use crate::refusal::Refusal;
+use arrayvec::ArrayVec;
+use std::alloc::{AllocError, Global};
 
-// The letters of a name, copied from the text.
-#[derive(Clone, Copy)]
-pub struct Name {
-    pub letters: [u8; 16],
-    pub length: usize,
-    ghost short: { length ≤ 16 },
-}
+// The letters of a name, copied from the text: the tables outlive it.
+pub(crate) type Name = ArrayVec<u8, 16>;
 
 // A name in force, with the place of its binder, and whether it was used.
-#[derive(Clone, Copy)]
-pub struct InForce {
-    pub place: usize,
-    pub name: Name,
-    pub used: bool,
+#[derive(Drop)]
+pub(crate) struct InForce {
+    pub(crate) place: usize,
+    pub(crate) name: Name,
+    pub(crate) used: bool,
 }
 
 // All names bound so far, those in force from the outermost, and the first fault of names so far.
 #[derive(Drop)]
-pub struct Scope {
-    pub bound: Vec<Name>,
-    pub in_force: Vec<InForce>,
-    pub least: Option<Refusal>,
+pub(crate) struct Scope {
+    pub(crate) bound: Vec<Name>,
+    pub(crate) in_force: Vec<InForce>,
+    pub(crate) least: Option<Refusal>,
     ghost bound_room: { 4096 ≤ vec_capacity bound },
     ghost force_room: { 256 ≤ vec_capacity in_force },
+}
+
+impl Scope {
+    ghost use Rattle.std.specs.Prelude.{◌≡◌, IfOk};
+    ghost use Rattle.syntax.specs.Scopes.{no_names};
+    ghost use Rattle.syntax.specs.Held.{names_of};
+
+    // With no names, and room for all that a text may bind.
+    pub(crate) fn new(heap: Global) -> Result<Scope, AllocError>
+        ensures { IfOk result (λ s. names_of s ≡ no_names) }
+    {
+        Ok(Scope {
+            bound: Vec::with_capacity(heap, 4096)?,
+            in_force: Vec::with_capacity(heap, 256)?,
+            least: None,
+        })
+    }
 }

@@ -1,169 +1,113 @@
 // Names: what binding, entering, using and leaving does to them.
 ghost use Rattle.std.specs.Prelude.{◌≡◌, ◌<◌, ◌≤◌, map, length};
 ghost use Rattle.std.specs.Str.{bytes_eq};
-ghost use Rattle.syntax.specs.Names.{among as amongst, before as precedes, sooner as soonest, binder_of};
-ghost use Rattle.syntax.specs.Scopes.{declare as declared, enter as entered, found as place, unused as idle, occur as occurred, settle as settled, shut};
+ghost use Rattle.syntax.specs.Names.{among, fault as fault_at, sooner as soonest, binder_of};
+ghost use Rattle.syntax.specs.Scopes.{declare as declared, enter as entered, occur as occurred, settle as settled, note as noted, shut};
 ghost use Rattle.syntax.specs.Held.{spelled, name_in_force, names_of, binders_of};
 ghost use Rattle.syntax.specs.Steps.{binder_at};
 
 use crate::names::Binder;
 use crate::refusal::{Fault, Refusal};
 use crate::scope::{InForce, Name, Scope};
+use arrayvec::ArrayVec;
 
-fn copy(word: &[u8]) -> Name
+fn copied(word: &[u8]) -> Name
     requires { length word.now ≤ 16 }
     ensures { spelled result ≡ word.now }
 {
-    let mut letters = [0; 16];
-    for (i, b) in word.iter().enumerate() {
-        letters[i] = *b;
-    }
-    Name {
-        letters,
-        length: word.len(),
-    }
+    ArrayVec::try_from(word).unwrap()
 }
 
-fn same(name: &Name, word: &[u8]) -> bool
-    ensures { result ≡ bytes_eq word.now (spelled name.now) }
-{
-    &name.letters[0..name.length] == word
-}
-
-fn among(names: &[Name], word: &[u8]) -> bool
-    ensures { result ≡ amongst word.now (map spelled names.now) }
-{
-    for name in names {
-        if same(name, word) {
-            return true;
-        }
-    }
-    false
-}
-
-// The number of the innermost name in force that is spelled so.
-fn found(names: &[InForce], word: &[u8]) -> Option<usize>
-    ensures { result ≡ place word.now (map name_in_force names.now) }
-{
-    let mut i = names.len();
-    while i > 0 {
-        i -= 1;
-        if same(&names[i].name, word) {
-            return Some(i);
-        }
-    }
-    None
-}
-
-// Does `a` go before `b`: by its place, then by its number?
-fn before(a: Refusal, b: Refusal) -> bool
-    ensures { result ≡ precedes a b }
-{
-    a.place < b.place || a.place == b.place && a.fault.number() < b.fault.number()
-}
-
+// The one that goes first, of a refusal and perhaps another.
+#[tactic(auto, using(crate::proofs::Order::less_before))]
 fn sooner(a: Refusal, other: Option<Refusal>) -> Option<Refusal>
     ensures { result ≡ soonest a other }
 {
-    match other {
-        None => Some(a),
-        Some(b) => { if before(a, b) { Some(a) } else { Some(b) } }
+    Some(other.map_or(a, |b| b.min(a)))
+}
+
+impl Scope {
+    // A fault is met: the one that goes first is kept.
+    fn note(&mut self, fault: Fault, place: usize)
+        ensures { names_of self.new ≡ noted (fault_at fault place) (names_of self.old) }
+    {
+        self.least = sooner(Refusal { fault, place }, self.least);
     }
-}
 
-// A binder is met in the text: its name may be bound only once.
-pub fn declare(scope: &mut Scope, binder: Binder)
-    requires room { length scope.old.bound.items < 4096 }
-    requires short { length binder.name.now ≤ 16 }
-    ensures { names_of scope.new ≡ declared (binder_at binder.entry) (names_of scope.old) }
-{
-    if among(&scope.bound, binder.name) {
-        scope.least = sooner(
-            Refusal {
-                fault: Fault::BoundTwice,
-                place: binder.place,
-            },
-            scope.least,
-        );
+    // Was this name bound before?
+    fn binds(&self, word: &[u8]) -> bool
+        ensures { result ≡ among word.now (names_of self.now).bound }
+    {
+        self.bound.iter().any(|name| name.as_slice() == word)
     }
-    scope.bound.push_reserved(copy(binder.name));
-}
 
-// It comes into force.
-pub fn enter(scope: &mut Scope, binder: Binder)
-    requires room { length scope.old.in_force.items < 256 }
-    requires short { length binder.name.now ≤ 16 }
-    ensures { names_of scope.new ≡ entered (binder_at binder.entry) (names_of scope.old) }
-{
-    scope.in_force.push_reserved(InForce {
-        place: binder.place,
-        name: copy(binder.name),
-        used: false,
-    });
-}
+    // A binder is met in the text: its name may be bound only once.
+    pub(crate) fn declare(&mut self, binder: Binder)
+        requires room { length self.old.bound.items < 4096 }
+        requires short { length binder.name.now ≤ 16 }
+        ensures { names_of self.new ≡ declared (binder_at binder.entry) (names_of self.old) }
+    {
+        if self.binds(binder.name) {
+            self.note(Fault::BoundTwice, binder.place);
+        }
+        self.bound.push_reserved(copied(binder.name));
+    }
 
-// A name occurs: the place of its binder, or its own where it has none.
-pub fn occur(scope: &mut Scope, place: usize, word: &[u8]) -> usize
-    ensures names { names_of scope.new ≡ occurred place word.now (names_of scope.old) }
-    ensures binder { result ≡ binder_of word.now (binders_of (names_of scope.old).force) place }
-{
-    let Some(i) = found(&scope.in_force, word) else {
-        scope.least = sooner(
-            Refusal {
-                fault: Fault::Unbound,
-                place,
-            },
-            scope.least,
-        );
-        return place;
-    };
-    let name = scope.in_force[i];
-    if name.used {
-        scope.least = sooner(
-            Refusal {
-                fault: Fault::UsedTwice,
-                place,
-            },
-            scope.least,
-        );
-    } else {
-        scope.in_force[i] = InForce {
-            place: name.place,
-            name: name.name,
-            used: true,
+    // It comes into force.
+    pub(crate) fn enter(&mut self, binder: Binder)
+        requires room { length self.old.in_force.items < 256 }
+        requires short { length binder.name.now ≤ 16 }
+        ensures { names_of self.new ≡ entered (binder_at binder.entry) (names_of self.old) }
+    {
+        self.in_force.push_reserved(InForce {
+            place: binder.place,
+            name: copied(binder.name),
+            used: false,
+        });
+    }
+
+    // A name occurs: the place of its binder, or its own where it has none.
+    pub(crate) fn occur(&mut self, place: usize, word: &[u8]) -> usize
+        ensures names { names_of self.new ≡ occurred place word.now (names_of self.old) }
+        ensures binder { result ≡ binder_of word.now (binders_of (names_of self.old).force) place }
+    {
+        let met = self
+            .in_force
+            .iter()
+            .rposition(|name| name.name.as_slice() == word);
+        let Some(i) = met else {
+            self.note(Fault::Unbound, place);
+            return place;
         };
+        let name = &self.in_force[i];
+        let binder = name.place;
+        if name.used {
+            self.note(Fault::UsedTwice, place);
+        } else {
+            self.in_force[i].used = true;
+        }
+        binder
     }
-    name.place
-}
 
-fn unused(names: &[InForce], least: Option<Refusal>) -> Option<Refusal>
-    ensures { result ≡ idle (map name_in_force names.now) least }
-{
-    let mut least = least;
-    for name in names {
-        if !name.used {
-            least = sooner(
+    // Names that go out of force have to be used.
+    pub(crate) fn settle(&mut self, before: usize)
+        ensures { names_of self.new ≡ settled before (names_of self.old) }
+    {
+        let idle = self.in_force.iter().skip(before).filter(|name| !name.used);
+        self.least = idle.fold(self.least, |least, name| {
+            sooner(
                 Refusal {
                     fault: Fault::Unused,
                     place: name.place,
                 },
                 least,
-            );
-        }
+            )
+        });
     }
-    least
-}
-
-// Names that go out of force have to be used.
-pub fn settle(scope: &mut Scope, before: usize)
-    requires { before ≤ length scope.old.in_force.items }
-    ensures { names_of scope.new ≡ settled before (names_of scope.old) }
-{
-    scope.least = unused(&scope.in_force[before..], scope.least);
 }
 
 // Puts the height of the names in force back on every way out.
-pub struct Guard<'a>(pub &'a mut Scope, pub usize);
+pub(crate) struct Guard<'a>(pub(crate) &'a mut Scope, pub(crate) usize);
 
 impl Drop for Guard<'_> {
     fn drop(self)

@@ -13,6 +13,18 @@ pub struct Program {
     ghost type_room: { 4096 ≤ vec_capacity types },
 }
 
+impl Program {
+    // Empty, with room for all that a text may hold.
+    fn new(heap: Global) -> Result<Program, AllocError>
+        ensures { IfOk result (λ p. (p.subterms.items ≡ []) × (p.types.items ≡ [])) }
+    {
+        Ok(Program {
+            subterms: Vec::with_capacity(heap, 2048)?,
+            types: Vec::with_capacity(heap, 4096)?,
+        })
+    }
+}
+
 // All memory that reading needs, had once and used as often as one likes.
 #[derive(Drop)]
 pub struct Tables {
@@ -24,16 +36,9 @@ impl Tables {
     pub fn new(heap: Global) -> Result<Tables, AllocError>
         ensures { IfOk result (λ t. (t.program.subterms.items ≡ []) × (t.program.types.items ≡ [])) }
     {
-        let subterms = Vec::with_capacity(heap, 2048)?;
-        let types = Vec::with_capacity(heap, 4096)?;
-        let bound = Vec::with_capacity(heap, 4096)?;
-        let in_force = Vec::with_capacity(heap, 256)?;
-        let program = Program { subterms, types };
-        let scope = Scope {
-            bound,
-            in_force,
-            least: None,
-        };
-        Ok(Tables { program, scope })
+        Ok(Tables {
+            program: Program::new(heap)?,
+            scope: Scope::new(heap)?,
+        })
     }
 }

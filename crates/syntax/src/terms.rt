@@ -1,15 +1,13 @@
 // Terms: the sub-terms that hold them, and the names that they bind and use.
 ghost use Rattle.std.specs.Prelude.{◌+◌, ◌-◌, ◌<◌, ◌≤◌, length};
 ghost use Rattle.syntax.specs.Parse.{term as terms};
-ghost use Rattle.syntax.specs.Signs.{lex};
-ghost use Rattle.syntax.specs.Steps.{TermRead, BodyRead, Follows, HasRoom, IsCounted, IsPut, begun, signed};
+ghost use Rattle.syntax.specs.Steps.{TermRead, BodyRead, Follows, HasRoom, IsCounted, IsPut, begun, signed, signs_in};
 
-use crate::names::{First, Start};
+use crate::names::{First, Rest, Start};
 use crate::program::{Shape, Subterm};
-use crate::refusal::Refusal;
-use crate::scan::{expect, expect_in, first, let_head, passed_limit, place_of, skip};
+use crate::refusal::{Fault, Refusal};
 use crate::scope::Scope;
-use crate::scoping::{Guard, declare, enter, occur, settle};
+use crate::scoping::Guard;
 use crate::tables::Program;
 use crate::types::function_head;
 
@@ -18,37 +16,38 @@ const DEPTH: usize = 128;
 const SUBTERMS: usize = 2048;
 
 // The number of the sub-term that was read, and what is left of the text.
-pub(crate) type Read<'a> = Result<(usize, &'a [u8]), Refusal>;
+pub(crate) type Read<'a> = Result<(usize, Rest<'a>), Refusal>;
 
-// Puts a sub-term after the others.
-fn put(program: &mut Program, place: usize, shape: Shape) -> usize
-    requires { length program.old.subterms.items < 2048 }
-    ensures { IsPut place shape program.old program.new result }
-{
-    let at = program.subterms.len();
-    program.subterms.push_reserved(Subterm { place, shape });
-    at
+impl Program {
+    // Puts a sub-term after the others.
+    fn put(&mut self, place: usize, shape: Shape) -> usize
+        requires { length self.old.subterms.items < 2048 }
+        ensures { IsPut place shape self.old self.new result }
+    {
+        let at = self.subterms.len();
+        self.subterms.push_reserved(Subterm { place, shape });
+        at
+    }
 }
 
 // Reads a term inside `depth` others. Whatever it answers, the names in force are again those that were.
 #[cycle(after_first_application_body_function_iterator_let_in_pair_successor_term)]
-pub fn term<'a>(
-    text: &'a [u8],
-    end: usize,
+pub(crate) fn term<'a>(
+    rest: Rest<'a>,
     depth: usize,
     program: &mut Program,
     scope: &mut Scope,
 ) -> Read<'a>
     requires { HasRoom depth program.old scope.old }
-    ensures { TermRead end depth program.old scope.old program.new scope.new (terms end (128 - depth) (begun depth program.old) (signed program.old) (lex end text.now)) result }
+    ensures { TermRead rest.entry.end depth program.old scope.old program.new scope.new (terms rest.entry.end (128 - depth) (begun depth program.old) (signed program.old) (signs_in rest.entry)) result }
 {
-    let text = skip(text);
-    let (first, rest) = first(text, end)?;
+    let start = rest.skip();
+    let (first, rest) = start.first()?;
     if depth >= DEPTH || program.subterms.len() + depth >= SUBTERMS {
-        return Err(passed_limit(end, text));
+        return Err(start.refuse(Fault::PassedLimit));
     }
-    let place = place_of(end, text);
-    let at = Start { place, end, depth };
+    let place = start.place();
+    let at = Start { place, depth };
     after_first(first, rest, at, program, scope)
 }
 
@@ -56,43 +55,43 @@ pub fn term<'a>(
 #[cycle(after_first_application_body_function_iterator_let_in_pair_successor_term)]
 fn after_first<'a>(
     first: First<'a>,
-    text: &'a [u8],
+    rest: Rest<'a>,
     at: Start,
     program: &mut Program,
     scope: &mut Scope,
 ) -> Read<'a>
     requires { IsCounted at program.old scope.old }
-    ensures { Follows first.entry at text.now program.old scope.old program.new scope.new result }
+    ensures { Follows first.entry at rest.entry program.old scope.old program.new scope.new result }
 {
     match first {
         First::Name(word) => {
-            let binder = occur(scope, at.place, word);
-            Ok((put(program, at.place, Shape::Variable(binder)), text))
+            let binder = scope.occur(at.place, word);
+            Ok((program.put(at.place, Shape::Variable(binder)), rest))
         }
-        First::Number(number) => Ok((put(program, at.place, Shape::Number(number)), text)),
-        First::Successor => successor(text, at, program, scope),
-        First::Function => function(text, at, program, scope),
-        First::Application => application(text, at, program, scope),
-        First::Pair => pair(text, at, program, scope),
-        First::Let => let_in(text, at, program, scope),
-        First::Iterator => iterator(text, at, program, scope),
+        First::Number(number) => Ok((program.put(at.place, Shape::Number(number)), rest)),
+        First::Successor => successor(rest, at, program, scope),
+        First::Function => function(rest, at, program, scope),
+        First::Application => application(rest, at, program, scope),
+        First::Pair => pair(rest, at, program, scope),
+        First::Let => let_in(rest, at, program, scope),
+        First::Iterator => iterator(rest, at, program, scope),
     }
 }
 
 // Reads `t` after `S`.
 #[cycle(after_first_application_body_function_iterator_let_in_pair_successor_term)]
-fn successor<'a>(text: &'a [u8], at: Start, program: &mut Program, scope: &mut Scope) -> Read<'a>
+fn successor<'a>(rest: Rest<'a>, at: Start, program: &mut Program, scope: &mut Scope) -> Read<'a>
     requires { IsCounted at program.old scope.old }
-    ensures { Follows First.Successor at text.now program.old scope.old program.new scope.new result }
+    ensures { Follows First.Successor at rest.entry program.old scope.old program.new scope.new result }
 {
-    let (body, rest) = term(text, at.end, at.depth + 1, program, scope)?;
-    Ok((put(program, at.place, Shape::Successor(body)), rest))
+    let (body, rest) = term(rest, at.depth + 1, program, scope)?;
+    Ok((program.put(at.place, Shape::Successor(body)), rest))
 }
 
 // Reads the body of a binder, inside which the names in force from number `before` on are its own. They go out of force at its end, also when a fault cuts it short.
 #[cycle(after_first_application_body_function_iterator_let_in_pair_successor_term)]
 fn body<'a>(
-    text: &'a [u8],
+    rest: Rest<'a>,
     at: Start,
     before: usize,
     program: &mut Program,
@@ -101,73 +100,73 @@ fn body<'a>(
     requires deep { at.depth < 128 }
     requires room { HasRoom (at.depth + 1) program.old scope.old }
     requires own { before ≤ length scope.old.in_force.items }
-    ensures { BodyRead at before text.now program.old scope.old program.new scope.new result }
+    ensures { BodyRead rest.entry.end at before rest.entry.bytes.now program.old scope.old program.new scope.new result }
 {
     let guard = Guard(scope, before);
-    let (body, rest) = term(text, at.end, at.depth + 1, program, &mut *guard.0)?;
-    settle(&mut *guard.0, before);
+    let (body, rest) = term(rest, at.depth + 1, program, &mut *guard.0)?;
+    guard.0.settle(before);
     Ok((body, rest))
 }
 
 // Reads `x:T.t` after a backslash.
 #[cycle(after_first_application_body_function_iterator_let_in_pair_successor_term)]
-fn function<'a>(text: &'a [u8], at: Start, program: &mut Program, scope: &mut Scope) -> Read<'a>
+fn function<'a>(rest: Rest<'a>, at: Start, program: &mut Program, scope: &mut Scope) -> Read<'a>
     requires { IsCounted at program.old scope.old }
-    ensures { Follows First.Function at text.now program.old scope.old program.new scope.new result }
+    ensures { Follows First.Function at rest.entry program.old scope.old program.new scope.new result }
 {
-    let (head, rest) = function_head(text, at.end, &mut program.types)?;
+    let (head, rest) = function_head(rest, program)?;
     let before = scope.in_force.len();
-    declare(scope, head.binder);
-    enter(scope, head.binder);
+    scope.declare(head.binder);
+    scope.enter(head.binder);
     let (body, rest) = body(rest, at, before, program, scope)?;
     let shape = Shape::Function {
         binder: head.binder.place,
         annotation: head.annotation,
         body,
     };
-    Ok((put(program, at.place, shape), rest))
+    Ok((program.put(at.place, shape), rest))
 }
 
 // Reads `t u)` after a bracket.
 #[cycle(after_first_application_body_function_iterator_let_in_pair_successor_term)]
-fn application<'a>(text: &'a [u8], at: Start, program: &mut Program, scope: &mut Scope) -> Read<'a>
+fn application<'a>(rest: Rest<'a>, at: Start, program: &mut Program, scope: &mut Scope) -> Read<'a>
     requires { IsCounted at program.old scope.old }
-    ensures { Follows First.Application at text.now program.old scope.old program.new scope.new result }
+    ensures { Follows First.Application at rest.entry program.old scope.old program.new scope.new result }
 {
-    let (function, rest) = term(text, at.end, at.depth + 1, program, scope)?;
-    let (argument, rest) = term(rest, at.end, at.depth + 1, program, scope)?;
-    let rest = expect(rest, at.end, b')')?;
+    let (function, rest) = term(rest, at.depth + 1, program, scope)?;
+    let (argument, rest) = term(rest, at.depth + 1, program, scope)?;
+    let rest = rest.expect(b')')?;
     let shape = Shape::Application(function, argument);
-    Ok((put(program, at.place, shape), rest))
+    Ok((program.put(at.place, shape), rest))
 }
 
 // Reads `t,u>` after `<`.
 #[cycle(after_first_application_body_function_iterator_let_in_pair_successor_term)]
-fn pair<'a>(text: &'a [u8], at: Start, program: &mut Program, scope: &mut Scope) -> Read<'a>
+fn pair<'a>(rest: Rest<'a>, at: Start, program: &mut Program, scope: &mut Scope) -> Read<'a>
     requires { IsCounted at program.old scope.old }
-    ensures { Follows First.Pair at text.now program.old scope.old program.new scope.new result }
+    ensures { Follows First.Pair at rest.entry program.old scope.old program.new scope.new result }
 {
-    let (first, rest) = term(text, at.end, at.depth + 1, program, scope)?;
-    let rest = expect(rest, at.end, b',')?;
-    let (second, rest) = term(rest, at.end, at.depth + 1, program, scope)?;
-    let rest = expect(rest, at.end, b'>')?;
-    Ok((put(program, at.place, Shape::Pair(first, second)), rest))
+    let (first, rest) = term(rest, at.depth + 1, program, scope)?;
+    let rest = rest.expect(b',')?;
+    let (second, rest) = term(rest, at.depth + 1, program, scope)?;
+    let rest = rest.expect(b'>')?;
+    Ok((program.put(at.place, Shape::Pair(first, second)), rest))
 }
 
 // Reads `<x,y> = t in u` after the word `let`.
 #[cycle(after_first_application_body_function_iterator_let_in_pair_successor_term)]
-fn let_in<'a>(text: &'a [u8], at: Start, program: &mut Program, scope: &mut Scope) -> Read<'a>
+fn let_in<'a>(rest: Rest<'a>, at: Start, program: &mut Program, scope: &mut Scope) -> Read<'a>
     requires { IsCounted at program.old scope.old }
-    ensures { Follows First.Let at text.now program.old scope.old program.new scope.new result }
+    ensures { Follows First.Let at rest.entry program.old scope.old program.new scope.new result }
 {
-    let ((first, second), rest) = let_head(text, at.end)?;
-    declare(scope, first);
-    declare(scope, second);
-    let (pair, rest) = term(rest, at.end, at.depth + 1, program, scope)?;
-    let rest = expect_in(rest, at.end)?;
+    let ((first, second), rest) = rest.let_head()?;
+    scope.declare(first);
+    scope.declare(second);
+    let (pair, rest) = term(rest, at.depth + 1, program, scope)?;
+    let rest = rest.expect_in()?;
     let before = scope.in_force.len();
-    enter(scope, first);
-    enter(scope, second);
+    scope.enter(first);
+    scope.enter(second);
     let (body, rest) = body(rest, at, before, program, scope)?;
     let shape = Shape::Let {
         first: first.place,
@@ -175,18 +174,18 @@ fn let_in<'a>(text: &'a [u8], at: Start, program: &mut Program, scope: &mut Scop
         pair,
         body,
     };
-    Ok((put(program, at.place, shape), rest))
+    Ok((program.put(at.place, shape), rest))
 }
 
 // Reads `t u v` after the word `iter`.
 #[cycle(after_first_application_body_function_iterator_let_in_pair_successor_term)]
-fn iterator<'a>(text: &'a [u8], at: Start, program: &mut Program, scope: &mut Scope) -> Read<'a>
+fn iterator<'a>(rest: Rest<'a>, at: Start, program: &mut Program, scope: &mut Scope) -> Read<'a>
     requires { IsCounted at program.old scope.old }
-    ensures { Follows First.Iterator at text.now program.old scope.old program.new scope.new result }
+    ensures { Follows First.Iterator at rest.entry program.old scope.old program.new scope.new result }
 {
-    let (count, rest) = term(text, at.end, at.depth + 1, program, scope)?;
-    let (step, rest) = term(rest, at.end, at.depth + 1, program, scope)?;
-    let (base, rest) = term(rest, at.end, at.depth + 1, program, scope)?;
+    let (count, rest) = term(rest, at.depth + 1, program, scope)?;
+    let (step, rest) = term(rest, at.depth + 1, program, scope)?;
+    let (base, rest) = term(rest, at.depth + 1, program, scope)?;
     let shape = Shape::Iterator { count, step, base };
-    Ok((put(program, at.place, shape), rest))
+    Ok((program.put(at.place, shape), rest))
 }

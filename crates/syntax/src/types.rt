@@ -1,33 +1,34 @@
 // Types: the cells that hold them.
-ghost use Rattle.std.specs.Prelude.{◌≡◌, ◌+◌, ◌-◌, ◌≤◌, length, vec_capacity};
+ghost use Rattle.std.specs.Prelude.{◌≡◌, ◌+◌, ◌-◌, ◌<◌, ◌≤◌, length};
 ghost use Rattle.syntax.specs.Parse.{type, joint as joints, joined, function_head};
-ghost use Rattle.syntax.specs.Signs.{lex};
-ghost use Rattle.syntax.specs.Steps.{Gives, TypeHeld, HeadHeld, cell_of};
+ghost use Rattle.syntax.specs.Steps.{Gives, IsTypePut, TypeHeld, HeadHeld, cell_of, signs_in};
 
-use crate::names::Head;
+use crate::names::{Head, Rest};
 use crate::program::TypeCell;
-use crate::refusal::Refusal;
-use crate::scan::{binder, expect, passed_limit, skip, wrong_sign};
+use crate::refusal::{Fault, Refusal};
 use crate::signs::Joint;
+use crate::tables::Program;
 
 const DEPTH: usize = 64;
 
 const SIGNS: usize = 2048;
 
-// Reads the sign between the parts of a type, before which `count` type signs stand.
-pub fn joint(text: &[u8], end: usize, count: usize) -> Result<(Joint, &[u8]), Refusal>
-    ensures { Gives end (λ j k. j ≡ k) (joints end count (lex end text.now)) result }
-{
-    let rest = skip(text);
-    let (joint, after) = match rest {
-        [b'>', after @ ..] => (Joint::Arrow, after),
-        [b'*', after @ ..] => (Joint::Product, after),
-        _ => return Err(wrong_sign(end, rest)),
-    };
-    if count >= SIGNS {
-        return Err(passed_limit(end, rest));
+impl<'a> Rest<'a> {
+    // Reads the sign between the parts of a type, before which `count` type signs stand.
+    fn joint(self, count: usize) -> Result<(Joint, Rest<'a>), Refusal>
+        ensures { Gives self.entry.end (λ j k. j ≡ k) (joints self.entry.end count (signs_in self.entry)) result }
+    {
+        let rest = self.skip();
+        let (joint, after) = match rest.bytes {
+            [b'>', after @ ..] => (Joint::Arrow, after),
+            [b'*', after @ ..] => (Joint::Product, after),
+            _ => return Err(rest.refuse(Fault::WrongSign)),
+        };
+        if count >= SIGNS {
+            return Err(rest.refuse(Fault::PassedLimit));
+        }
+        Ok((joint, rest.with(after)))
     }
-    Ok((joint, after))
 }
 
 fn cell(joint: Joint, first: usize, second: usize) -> TypeCell
@@ -39,77 +40,77 @@ fn cell(joint: Joint, first: usize, second: usize) -> TypeCell
     }
 }
 
+impl Program {
+    // Puts a type cell after the others.
+    fn put_type(&mut self, cell: TypeCell) -> usize
+        requires { length self.old.types.items < 4096 }
+        ensures { IsTypePut cell self.old self.new result }
+    {
+        let at = self.types.len();
+        self.types.push_reserved(cell);
+        at
+    }
+}
+
 // Reads a type inside `depth` others, of which `open` have passed the sign between their parts.
 #[cycle(brackets_read_type)]
-pub fn read_type<'a>(
-    text: &'a [u8],
-    end: usize,
+fn read_type<'a>(
+    rest: Rest<'a>,
     depth: usize,
     open: usize,
-    types: &mut Vec<TypeCell>,
-) -> Result<(usize, &'a [u8]), Refusal>
-    requires room { 4096 ≤ vec_capacity types.old }
-    requires few { length types.old.items + «open» ≤ 2048 }
-    ensures gives { Gives end (TypeHeld «open» types.old.items types.new.items) (type end (64 - depth) (length types.old.items + «open») (lex end text.now)) result }
-    ensures room { vec_capacity types.new ≡ vec_capacity types.old }
+    program: &mut Program,
+) -> Result<(usize, Rest<'a>), Refusal>
+    requires { length program.old.types.items + «open» ≤ 2048 }
+    ensures { Gives rest.entry.end (TypeHeld «open» program.old program.new) (type rest.entry.end (64 - depth) (length program.old.types.items + «open») (signs_in rest.entry)) result }
 {
-    let rest = skip(text);
-    match rest {
+    let rest = rest.skip();
+    match rest.bytes {
         [b'N', after @ ..] => {
-            if depth >= DEPTH || types.len() + open >= SIGNS {
-                return Err(passed_limit(end, rest));
+            if depth >= DEPTH || program.types.len() + open >= SIGNS {
+                return Err(rest.refuse(Fault::PassedLimit));
             }
-            let at = types.len();
-            types.push_reserved(TypeCell::N);
-            Ok((at, after))
+            let at = program.put_type(TypeCell::N);
+            Ok((at, rest.with(after)))
         }
         [b'(', after @ ..] => {
             if depth >= DEPTH {
-                return Err(passed_limit(end, rest));
+                return Err(rest.refuse(Fault::PassedLimit));
             }
-            brackets(after, end, depth + 1, open, types)
+            brackets(rest.with(after), depth + 1, open, program)
         }
-        _ => Err(wrong_sign(end, rest)),
+        _ => Err(rest.refuse(Fault::WrongSign)),
     }
 }
 
 // Reads `T>U)` or `T*U)` after a bracket, where the parts are inside `depth` others.
 #[cycle(brackets_read_type)]
 fn brackets<'a>(
-    text: &'a [u8],
-    end: usize,
+    rest: Rest<'a>,
     depth: usize,
     open: usize,
-    types: &mut Vec<TypeCell>,
-) -> Result<(usize, &'a [u8]), Refusal>
-    requires room { 4096 ≤ vec_capacity types.old }
-    requires few { length types.old.items + «open» ≤ 2048 }
-    ensures gives { Gives end (TypeHeld «open» types.old.items types.new.items) (joined end (type end (64 - depth)) (length types.old.items + «open») (lex end text.now)) result }
-    ensures room { vec_capacity types.new ≡ vec_capacity types.old }
+    program: &mut Program,
+) -> Result<(usize, Rest<'a>), Refusal>
+    requires { length program.old.types.items + «open» ≤ 2048 }
+    ensures { Gives rest.entry.end (TypeHeld «open» program.old program.new) (joined rest.entry.end (type rest.entry.end (64 - depth)) (length program.old.types.items + «open») (signs_in rest.entry)) result }
 {
-    let (first, rest) = read_type(text, end, depth, open, types)?;
-    let (joint, rest) = joint(rest, end, types.len() + open)?;
-    let (second, rest) = read_type(rest, end, depth, open + 1, types)?;
-    let rest = expect(rest, end, b')')?;
-    let at = types.len();
-    types.push_reserved(cell(joint, first, second));
-    Ok((at, rest))
+    let (first, rest) = read_type(rest, depth, open, program)?;
+    let (joint, rest) = rest.joint(program.types.len() + open)?;
+    let (second, rest) = read_type(rest, depth, open + 1, program)?;
+    let rest = rest.expect(b')')?;
+    Ok((program.put_type(cell(joint, first, second)), rest))
 }
 
 // Reads `x:T.` after a backslash.
-pub fn function_head<'a>(
-    text: &'a [u8],
-    end: usize,
-    types: &mut Vec<TypeCell>,
-) -> Result<(Head<'a>, &'a [u8]), Refusal>
-    requires room { 4096 ≤ vec_capacity types.old }
-    requires few { length types.old.items ≤ 2048 }
-    ensures gives { Gives end (HeadHeld types.old.items types.new.items) (function_head end (length types.old.items) (lex end text.now)) result }
-    ensures room { vec_capacity types.new ≡ vec_capacity types.old }
+pub(crate) fn function_head<'a>(
+    rest: Rest<'a>,
+    program: &mut Program,
+) -> Result<(Head<'a>, Rest<'a>), Refusal>
+    requires { length program.old.types.items ≤ 2048 }
+    ensures { Gives rest.entry.end (HeadHeld program.old program.new) (function_head rest.entry.end (length program.old.types.items) (signs_in rest.entry)) result }
 {
-    let (binder, rest) = binder(text, end)?;
-    let rest = expect(rest, end, b':')?;
-    let (annotation, rest) = read_type(rest, end, 0, 0, types)?;
-    let rest = expect(rest, end, b'.')?;
+    let (binder, rest) = rest.binder()?;
+    let rest = rest.expect(b':')?;
+    let (annotation, rest) = read_type(rest, 0, 0, program)?;
+    let rest = rest.expect(b'.')?;
     Ok((Head { binder, annotation }, rest))
 }

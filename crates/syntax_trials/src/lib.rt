@@ -11,52 +11,13 @@ mod tests {
     use syntax::refusal::{Fault, Refusal};
     use syntax::tables::Tables;
 
-    fn refused(
-        rt: &impl Abort,
-        tables: &mut Tables,
-        text: &[u8],
-        fault: Fault,
-        place: usize,
-    ) -> Result<(), Fail> {
-        match read(text, tables) {
-            Ok(_) => Err(Fail::new("accepted")),
-            Err(refusal) => {
-                assert_eq!(rt; refusal, Refusal { fault, place });
-                Ok(())
-            },
-        }
+    fn refused(rt: &impl Abort, tables: &mut Tables, text: &[u8], fault: Fault, place: usize) {
+        assert_eq!(rt; read(text, tables).err(), Some(Refusal { fault, place }));
     }
 
-    fn accepted(
-        rt: &impl Abort,
-        tables: &mut Tables,
-        text: &[u8],
-        subterms: usize,
-    ) -> Result<(), Fail> {
-        match read(text, tables) {
-            Ok(_) => {
-                assert_eq!(rt; tables.program.subterms.len(), subterms);
-                Ok(())
-            },
-            Err(refusal) => {
-                assert_eq!(rt;
-                    refusal,
-                    Refusal {
-                        fault: Fault::TooLong,
-                        place: 1,
-                    }
-                );
-                Ok(())
-            },
-        }
-    }
-
-    fn repeat(heap: Global, times: u32, byte: u8) -> Result<Vec<u8>, AllocError> {
-        let mut text = Vec::new(heap);
-        for _ in 0..times {
-            text.push(byte)?;
-        }
-        Ok(text)
+    fn accepted(rt: &impl Abort, tables: &mut Tables, text: &[u8], subterms: usize) {
+        assert!(rt; read(text, tables).is_ok());
+        assert_eq!(rt; tables.program.subterms.len(), subterms);
     }
 
     // What `open`, a middle and `close` make of `levels` doublings of one sign.
@@ -86,18 +47,19 @@ mod tests {
     fn signs(rt: HostRuntime) -> Result<(), Fail> {
         let mut tables = Tables::new(rt.alloc())?;
         let t = &mut tables;
-        refused(&rt, t, b"", Fault::WrongSign, 0)?;
-        refused(&rt, t, b" \n ", Fault::WrongSign, 3)?;
-        refused(&rt, t, b"(\\x:N.S x S)", Fault::WrongSign, 11)?;
-        refused(&rt, t, b"3 4", Fault::WrongSign, 2)?;
-        refused(&rt, t, b"\t3", Fault::WrongSign, 0)?;
-        refused(&rt, t, b"in", Fault::WrongSign, 0)?;
-        refused(&rt, t, b"\\let:N.3", Fault::WrongSign, 1)?;
-        refused(&rt, t, b"S abcdefghijklmnopq", Fault::WrongSign, 2)?;
-        refused(&rt, t, b"S abcdefghijklmnop", Fault::Unbound, 2)?;
-        refused(&rt, t, b"S 007", Fault::WrongSign, 2)?;
-        accepted(&rt, t, b"SS3", 3)?;
-        accepted(&rt, t, b"let <x,y> = <\\z:N.z,7> in (x y)", 8)
+        refused(&rt, t, b"", Fault::WrongSign, 0);
+        refused(&rt, t, b" \n ", Fault::WrongSign, 3);
+        refused(&rt, t, b"(\\x:N.S x S)", Fault::WrongSign, 11);
+        refused(&rt, t, b"3 4", Fault::WrongSign, 2);
+        refused(&rt, t, b"\t3", Fault::WrongSign, 0);
+        refused(&rt, t, b"in", Fault::WrongSign, 0);
+        refused(&rt, t, b"\\let:N.3", Fault::WrongSign, 1);
+        refused(&rt, t, b"S abcdefghijklmnopq", Fault::WrongSign, 2);
+        refused(&rt, t, b"S abcdefghijklmnop", Fault::Unbound, 2);
+        refused(&rt, t, b"S 007", Fault::WrongSign, 2);
+        accepted(&rt, t, b"SS3", 3);
+        accepted(&rt, t, b"let <x,y> = <\\z:N.z,7> in (x y)", 8);
+        Ok(())
     }
 
     #[test]
@@ -105,26 +67,39 @@ mod tests {
         let heap = rt.alloc();
         let mut tables = Tables::new(heap)?;
         let t = &mut tables;
-        accepted(&rt, t, b"1000000000", 1)?;
-        refused(&rt, t, b"1000000001", Fault::LargeNumber, 0)?;
-        refused(&rt, t, &repeat(heap, 5000, b'9')?, Fault::LargeNumber, 0)?;
-        refused(&rt, t, &repeat(heap, 5000, b'0')?, Fault::WrongSign, 0)?;
-        accepted(&rt, t, b"0", 1)
+        accepted(&rt, t, b"1000000000", 1);
+        refused(&rt, t, b"1000000001", Fault::LargeNumber, 0);
+        refused(
+            &rt,
+            t,
+            &Vec::from_elem(heap, b'9', 5000)?,
+            Fault::LargeNumber,
+            0,
+        );
+        refused(
+            &rt,
+            t,
+            &Vec::from_elem(heap, b'0', 5000)?,
+            Fault::WrongSign,
+            0,
+        );
+        accepted(&rt, t, b"0", 1);
+        Ok(())
     }
 
     #[test]
     fn names(rt: HostRuntime) -> Result<(), Fail> {
         let mut tables = Tables::new(rt.alloc())?;
         let t = &mut tables;
-        refused(&rt, t, b"x", Fault::Unbound, 0)?;
-        refused(&rt, t, b"\\x:N.(\\x:N.x x)", Fault::BoundTwice, 7)?;
-        refused(&rt, t, b"\\x:N.<x,x>", Fault::UsedTwice, 8)?;
-        refused(&rt, t, b"\\x:N.3", Fault::Unused, 1)?;
-        refused(&rt, t, b"\\x:N.y", Fault::Unused, 1)?;
-        refused(&rt, t, b"let <x,x> = <1,2> in x", Fault::Unused, 5)?;
-        refused(&rt, t, b"(\\x:N.x x)", Fault::Unbound, 8)?;
-        refused(&rt, t, b"(\\x:N.", Fault::WrongSign, 6)?;
-        accepted(&rt, t, b"\\x:N.x", 2)?;
+        refused(&rt, t, b"x", Fault::Unbound, 0);
+        refused(&rt, t, b"\\x:N.(\\x:N.x x)", Fault::BoundTwice, 7);
+        refused(&rt, t, b"\\x:N.<x,x>", Fault::UsedTwice, 8);
+        refused(&rt, t, b"\\x:N.3", Fault::Unused, 1);
+        refused(&rt, t, b"\\x:N.y", Fault::Unused, 1);
+        refused(&rt, t, b"let <x,x> = <1,2> in x", Fault::Unused, 5);
+        refused(&rt, t, b"(\\x:N.x x)", Fault::Unbound, 8);
+        refused(&rt, t, b"(\\x:N.", Fault::WrongSign, 6);
+        accepted(&rt, t, b"\\x:N.x", 2);
         assert!(rt;
             matches!(t.program.subterms.get(0), Some(s) if matches!(s.shape, Shape::Variable(1)))
         );
@@ -136,24 +111,25 @@ mod tests {
         let heap = rt.alloc();
         let mut tables = Tables::new(heap)?;
         let t = &mut tables;
-        let mut deep = repeat(heap, 127, b'S')?;
+        let mut deep = Vec::from_elem(heap, b'S', 127)?;
         deep.push(b'0')?;
-        accepted(&rt, t, &deep, 128)?;
-        let mut deeper = repeat(heap, 128, b'S')?;
+        accepted(&rt, t, &deep, 128);
+        let mut deeper = Vec::from_elem(heap, b'S', 128)?;
         deeper.push(b'0')?;
-        refused(&rt, t, &deeper, Fault::PassedLimit, 128)?;
+        refused(&rt, t, &deeper, Fault::PassedLimit, 128);
         let mut text = Vec::new(heap);
         text.extend_from_slice(b"\\x:")?;
-        text.extend_from_slice(&repeat(heap, 63, b'(')?)?;
+        text.extend_from_slice(&Vec::from_elem(heap, b'(', 63)?)?;
         text.push(b'N')?;
         for _ in 0..63 {
             text.extend_from_slice(b">N)")?;
         }
         text.extend_from_slice(b".x")?;
-        accepted(&rt, t, &text, 2)?;
+        accepted(&rt, t, &text, 2);
         text.truncate(66);
         text.extend_from_slice(b"(N")?;
-        refused(&rt, t, &text, Fault::PassedLimit, 67)
+        refused(&rt, t, &text, Fault::PassedLimit, 67);
+        Ok(())
     }
 
     #[test]
@@ -162,12 +138,12 @@ mod tests {
         let mut tables = Tables::new(heap)?;
         let t = &mut tables;
         let pairs = doubled(heap, 10, b'0', b'<', b',', b'>')?;
-        let mut full = repeat(heap, 1, b'S')?;
+        let mut full = Vec::from_elem(heap, b'S', 1)?;
         full.extend_from_slice(&pairs)?;
-        accepted(&rt, t, &full, 2048)?;
-        let mut over = repeat(heap, 2, b'S')?;
+        accepted(&rt, t, &full, 2048);
+        let mut over = Vec::from_elem(heap, b'S', 2)?;
         over.extend_from_slice(&pairs)?;
-        refused(&rt, t, &over, Fault::PassedLimit, 4084)?;
+        refused(&rt, t, &over, Fault::PassedLimit, 4084);
         let wide = doubled(heap, 10, b'N', b'(', b'>', b')')?;
         let mut text = Vec::new(heap);
         text.extend_from_slice(b"\\x:")?;
@@ -175,10 +151,11 @@ mod tests {
         text.extend_from_slice(b".\\y:N.")?;
         let most = text.len();
         text.extend_from_slice(b"<x,y>")?;
-        accepted(&rt, t, &text, 5)?;
+        accepted(&rt, t, &text, 5);
         text.truncate(most);
         text.extend_from_slice(b"\\z:N.<x,<y,z>>")?;
-        refused(&rt, t, &text, Fault::PassedLimit, 4105)
+        refused(&rt, t, &text, Fault::PassedLimit, 4105);
+        Ok(())
     }
 
     #[test]
@@ -186,10 +163,11 @@ mod tests {
         let heap = rt.alloc();
         let mut tables = Tables::new(heap)?;
         let t = &mut tables;
-        let mut text = repeat(heap, 16_383, b' ')?;
+        let mut text = Vec::from_elem(heap, b' ', 16_383)?;
         text.push(b'7')?;
-        accepted(&rt, t, &text, 1)?;
+        accepted(&rt, t, &text, 1);
         text.push(b' ')?;
-        refused(&rt, t, &text, Fault::TooLong, 0)
+        refused(&rt, t, &text, Fault::TooLong, 0);
+        Ok(())
     }
 }

@@ -8,7 +8,7 @@ ghost use Rattle.lab.specs.Listings.{rest_of};
 
 use anyhow::anyhow;
 use input::read_text;
-use lab::{Listing, Reserve, line_buffer, open, show_text};
+use lab::{Listing, Reserve, line_buffer, open};
 use machine::Walk;
 use network::Builder;
 use std::alloc::Global;
@@ -41,14 +41,10 @@ fn trace<W: Write>(out: &mut W, heap: Global, text: &[u8]) -> anyhow::Result<()>
     let mut reserve = Reserve::new(heap)?;
     let mut line = line_buffer(heap)?;
     match open(&mut builder, text, reserve.lend(), DataCell::Question) {
-        Ok(token) => write_all_lines(out, &mut Listing::new(Walk::new(token)), &mut line),
-        Err(refused) => {
-            if let Ok(n) = show_text(&refused, &mut line) {
-                out.write_all(&line[0..n])?;
-            }
-            Ok(())
-        }
+        Ok(token) => write_all_lines(out, &mut Listing::new(Walk::new(token)), &mut line)?,
+        Err(refused) => writeln!(out, "{}", refused.refusal)?,
     }
+    Ok(())
 }
 
 fn main(rt: HostRuntime) -> anyhow::Result<()> {

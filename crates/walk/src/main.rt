@@ -4,7 +4,7 @@
 mod plan;
 
 use input::read_text;
-use lab::{Reserve, line_buffer, open, perform, show_text};
+use lab::{Reserve, open, perform};
 use machine::{Grant, Walk};
 use network::Builder;
 use plan::{NoPlan, Plan, read_words};
@@ -79,12 +79,7 @@ fn follow<W: Write>(out: &mut W, heap: Global, text: &[u8], plan: &Plan) -> anyh
     let mut reserve = Reserve::new(heap)?;
     match open(&mut builder, text, reserve.lend(), plan.first) {
         Ok(token) => act(out, heap, &mut Walk::new(token), &plan.calls)?,
-        Err(refused) => {
-            let mut line = line_buffer(heap)?;
-            if let Ok(n) = show_text(&refused, &mut line) {
-                out.write_all(&line[0..n])?;
-            }
-        }
+        Err(refused) => writeln!(out, "{}", refused.refusal)?,
     }
     Ok(())
 }
@@ -105,11 +100,7 @@ fn obey<W: Write, R: Read + Drop>(
 }
 
 fn arguments(rt: &HostRuntime) -> anyhow::Result<Vec<String>> {
-    let mut words = Vec::new(rt.alloc());
-    for word in env::args(rt)?.skip(1) {
-        words.push(word)?;
-    }
-    Ok(words)
+    Ok(env::args(rt)?.skip(1).collect(rt.alloc())?)
 }
 
 fn main(rt: HostRuntime) -> anyhow::Result<()> {

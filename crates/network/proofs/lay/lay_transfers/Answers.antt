@@ -1,13 +1,16 @@
-use Rattle.std.proofs.Common.{◌+◌, ◌-◌, replicate, ap, ◌∙◌, arith}
+use Rattle.std.proofs.Common.{◌+◌, replicate, refl, ap, ◌∙◌, arith}
+use lib.ListN.{length-replicate}
 use Rattle.cells.specs.declared.kinds.Kind.TheVariants.{Transfer}
 use Rattle.geometry.specs.Network.{Made}
-use Rattle.geometry.specs.Memory.{laid}
-use Rattle.network.proofs.Laid.{transfers_more}
+use Rattle.network.proofs.Laid.{filled}
 use Rattle.network.proofs.lay.lay_transfers.Goals as goal
 
-pub loop-k-preserved : goal.loop-k-preserved
-loop-k-preserved c =
-    let e = c.args.next.node + c.args.uses in
+pub returns : goal.returns
+returns c =
     let m : Made = (Transfer, c.args.iterator) in
-    let k = c.loop-k.k in
-    ap (laid (replicate (e - (k + 1)) m) (k + 1)) c.lay_node.ensures ∙ (transfers_more m c.args.uses e k c.loop-k.cells (omega arith) ∙ c.loop-k.invariant)
+    let f = c.fill.ensures.after (λ y e. e) ∙ ap (replicate _) c.unlinked.ensures in
+    record {
+      written = filled m c.args.uses c.args.next.node (c.args.next.node + c.args.uses) c.args.cells.now c.fill.new.self refl (omega arith) f;
+      node = omega (arith, length-replicate {A = Made} c.args.uses m);
+      iterator = omega arith;
+    }

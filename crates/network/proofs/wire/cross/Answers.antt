@@ -1,58 +1,34 @@
-use Rattle.std.proofs.Common.{◌≡◌, suc, ◌+◌, ◌<◌, [], length, get_or, drop, set, sym, ap, ◌∙◌, subst, arith}
-use Rattle.std.proofs.lemmas.List.{drop_more, drop_all}
+use Rattle.std.proofs.Common.{◌≡◌, suc, ◌+◌, ◌<◌, Some, length, get_or, drop, set, sym, ap, ◌∙◌, subst, arith, length-set}
+use Rattle.std.specs.Option.{unwrap_or}
+use Rattle.std.proofs.lemmas.List.{drop_more}
+use Rattle.cells.specs.Ports.{absent}
 use Rattle.geometry.specs.Network.{l1, l2, crossings, entered}
 use Rattle.geometry.specs.Memory.{wired_cells}
 use Rattle.network.specs.Wiring.{starting, Crossable}
 use Rattle.network.proofs.Crossed.{crossable_rest, wired_rest, entered_rest, joined_at}
 use Rattle.network.proofs.wire.cross.Goals as goal
 
-pub rebind-outside-requires : goal.rebind-outside-requires
-rebind-outside-requires c =
-    let l : c.loop-x.x-index < length c.args.uses.now = omega arith in
-    let h = rw (drop_more c.args.uses.now c.loop-x.x-index 0 l) at c.loop-x.invariant.1 in
-    h.placed.0
-
-pub join-requires : goal.join-requires
-join-requires c =
-    let l : c.loop-x.x-index < length c.args.uses.now = omega arith in
-    let h = rw (drop_more c.args.uses.now c.loop-x.x-index 0 l) at c.loop-x.invariant.1 in
-    let b = c.rebind-outside.ensures.before in
-    record {
-      within = (omega (arith, h.started.0, h.numbered.within, b), omega (arith, h.room, h.numbered.within, c.l1.ensures));
-      numbered = (omega (arith, h.started.0, h.numbered.ports, b), omega (arith, h.room, h.numbered.ports, c.l1.ensures));
-    }
-
-pub loop-x-preserved : goal.loop-x-preserved
-loop-x-preserved c =
+pub loop-i-preserved : goal.loop-i-preserved
+loop-i-preserved c =
     let us = c.args.uses.now in
-    let i = c.loop-x.x-index in
-    let j = c.loop-x.transfer in
-    let s = c.loop-x.starts in
-    let cs = c.loop-x.cells in
+    let i = c.loop-i.i in
+    let j = c.args.first + i in
+    let s = c.loop-i.starts in
+    let cs = c.loop-i.cells in
     let l : i < length us = omega arith in
     let x = get_or us i 0 in
     let d = drop_more us i 0 l in
-    let h = subst (λ q. Crossable q j s (length cs)) d c.loop-x.invariant.1 in
-    let e : j + 1 ≡ suc j = omega arith in
-    let f : c.rebind-outside.new.starts ≡ set s x (l2 j) = c.rebind-outside.ensures.after ∙ ap (λ p. set s x p) c.l2.ensures in
-    let g = joined_at cs _ _ _ (starting s x) (l1 j) c.join.ensures c.rebind-outside.ensures.before c.l1.ensures in
+    let h = subst (λ q. Crossable q j s (length cs)) d c.loop-i.invariant.rest in
+    let e : c.args.first + (i + 1) ≡ suc j = omega arith in
+    let p : c.at.result ≡ l2 j = omega (arith, c.at.ensures, h.room, h.numbered.ports) in
+    let q : c.at-in-loop-i.result ≡ l1 j = omega (arith, c.at-in-loop-i.ensures, h.room, h.numbered.ports) in
+    let o = ap (λ v. unwrap_or v absent) (sym c.unwrap.ensures ∙ c.replace-outside.ensures.value) in
+    let f = ap (set s x) (c.replace-outside.ensures.after ∙ ap Some p) in
+    let g = joined_at cs c.join.new.cells _ _ (starting s x) (l1 j) c.join.ensures o q in
     let rest = drop (i + 1) us in
-    let s' = c.rebind-outside.new.starts in (
-      omega arith,
-      crossable_rest x rest j s (length cs) h (j + 1) _ s' e (omega arith) f,
-      wired_rest x rest j s (length cs) h (j + 1) s' cs _ e f g ∙ (ap (λ q. wired_cells (crossings q j (starting s)) cs) (sym d) ∙ c.loop-x.invariant.2),
-      (λ y. entered_rest x rest j s (length cs) h (j + 1) s' e f y ∙ (ap (λ q. entered q j (starting s) y) (sym d) ∙ c.loop-x.invariant.3 y)),
-      omega arith,
-    )
-
-pub returns : goal.returns
-returns c =
-    let us = c.args.uses.now in
-    let i = c.loop-x.x-index in
-    let j = c.loop-x.transfer in
-    let d : drop i us ≡ [] = drop_all i us (omega arith) in
     record {
-      written = ap (λ q. wired_cells (crossings q j (starting c.loop-x.starts)) c.loop-x.cells) (sym d) ∙ c.loop-x.invariant.2;
-      inside = λ y. ap (λ q. entered q j (starting c.loop-x.starts) y) (sym d) ∙ c.loop-x.invariant.3 y;
-      long = c.loop-x.invariant.4;
+      rest = crossable_rest x rest j s (length cs) h (c.args.first + (i + 1)) _ _ e (omega arith) f;
+      written = wired_rest x rest j s (length cs) h (c.args.first + (i + 1)) _ cs _ e f g ∙ (ap (λ v. wired_cells (crossings v j (starting s)) cs) (sym d) ∙ c.loop-i.invariant.written);
+      inside = λ y. entered_rest x rest j s (length cs) h (c.args.first + (i + 1)) _ e f y ∙ (ap (λ v. entered v j (starting s) y) (sym d) ∙ c.loop-i.invariant.inside y);
+      long = length-set s x _ ∙ c.loop-i.invariant.long;
     }

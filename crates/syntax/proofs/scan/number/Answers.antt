@@ -1,4 +1,4 @@
-use Rattle.std.proofs.Common.{◌≡◌, ◌+◌, ◌<◌, ◌≤◌, true, refl, ap, ◌∙◌, arith, take_all, rules}
+use Rattle.std.proofs.Common.{◌≡◌, ◌+◌, ◌<◌, ◌≤◌, true, refl, arith, rules}
 use Rattle.std.proofs.lemmas.Bool.Decides.{nat_tests}
 use Rattle.syntax.specs.Signs.{is_number, number_of}
 use Rattle.syntax.proofs.Scanning.{number_more, number_front, plain-number}
@@ -20,9 +20,3 @@ loop-b-preserved c =
     let more = number_more c.args.run.now c.loop-b.b-index c.loop-b-test.true in
     let small : c.from-digit.result ≤ 9 = grind (arith, nat_tests, c.requires.digits c.loop-b.b-index c.loop-b-test.true, c.from-digit.ensures) in
     (omega (arith, c.loop-b.invariant.0, c.from-digit.ensures), omega (arith, c.if-value-digit.false))
-
-pub returns : goal.returns
-returns c =
-    let s = c.args.run.now in
-    let e : c.loop-b.value ≡ number_of s = c.loop-b.invariant.0 ∙ ap number_of (take_all c.loop-b.b-index s c.loop-b-test.false) in
-    (plain-number s c.requires.some (λ h e. elim c.if-run-lt2.branch [ then-run-lt2 w ↦ search rules | else-run-lt2+in_default-1 w ↦ search rules ]), e, omega (arith, c.loop-b.invariant.1))

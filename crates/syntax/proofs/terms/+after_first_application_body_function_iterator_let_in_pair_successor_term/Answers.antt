@@ -1,77 +1,75 @@
-use Rattle.std.proofs.Common.{◌≡◌, ◌+◌, ◌<◌, ◌≤◌, ◌⊎◌, length, vec_items, sym, refl, ap, ◌∙◌, inl, inr, arith, rules}
+use Rattle.std.proofs.Common.{◌≡◌, ◌<◌, ◌≤◌, ◌⊎◌, length, sym, refl, ap, ◌∙◌, inl, inr, arith}
 use Rattle.std.proofs.lemmas.Result.{err_from_is_err_and}
-use Rattle.syntax.specs.Parse.{refused}
 use Rattle.syntax.specs.Scopes.{Names, declare, enter, shut}
 use Rattle.syntax.specs.Held.{names_of, binders_of}
-use Rattle.syntax.specs.Steps.{binder_at}
+use Rattle.syntax.specs.Steps.{binder_at, begun, signed}
 use Rattle.syntax.proofs.Lexing.{skipped_twice}
-use Rattle.syntax.proofs.HeadSteps.{both_read}
 use Rattle.syntax.proofs.ReadSteps.{first_refused, first_full, first_read}
-use Rattle.syntax.proofs.Readings.{bound_count, force_count, declared_bound, declared_force, entered_force, kept_force, shut_kept, read_as, sign_as, next-room, name_follows, number_follows, succ_follows, app_follows, pair_follows, iter_follows, function-room, function_stopped, function_follows, pair_room, let_room, let_stopped, let_follows}
+use Rattle.syntax.proofs.Readings.{force_count, shut_kept, read_as, sign_as, name_follows, number_follows, succ_follows, app_follows, pair_follows, iter_follows, function_follows, both_read, let_stopped, let_follows}
 use Rattle.syntax.proofs.terms.+after_first_application_body_function_iterator_let_in_pair_successor_term.Goals as goal
 use Rattle.syntax.proofs.terms.+after_first_application_body_function_iterator_let_in_pair_successor_term.Goals.{term-then-depth-ge-DEPTH-via-then-depth-ge-DEPTH, term-then-depth-ge-DEPTH-via-else-depth-ge-DEPTH+then-len-depth-ge-SUBTERMS}
 
 pub term-first-requires : goal.term-first-requires
-term-first-requires t c = rw c.skip-text.ensures (sym (skipped_twice c.args.text.now))
+term-first-requires t c = rw c.skip-start.ensures.bytes (sym (skipped_twice c.args.rest.bytes.now))
 
 pub term-returns-in_err-first : goal.term-returns-in_err-first
 term-returns-in_err-first t c =
-    let subs = vec_items c.args.program.now.subterms in
-    let cells = vec_items c.args.program.now.types in
+    let P = c.args.program.now in
+    let o = rw c.skip-start.ensures.end at c.in_err-first.ensures in
     let q = err_from_is_err_and c.from_residual.result c.from_residual.ensures.1 in
-    record { gives = rw (q.1, q.2) (first_refused c.args.end c.args.depth (length subs + c.args.depth) (length cells) c.args.text.now c.skip-text.result.now c.skip-text.ensures _ c.in_err-first.ensures); kept = refl }
+    record { gives = rw (q.1, q.2) (first_refused c.args.rest.end c.args.depth (begun c.args.depth P) (signed P) c.args.rest.bytes.now c.skip-start.result.bytes.now c.skip-start.ensures.bytes _ o); kept = refl }
 
 pub term-returns-then-depth-ge-DEPTH : goal.term-returns-then-depth-ge-DEPTH
 term-returns-then-depth-ge-DEPTH t c =
     let d = c.args.depth in
-    let subs = vec_items c.args.program.now.subterms in
-    let cells = vec_items c.args.program.now.types in
-    let full : (128 ≤ d) ⊎ (2048 ≤ length subs + d) = elim c.then-depth-ge-DEPTH.branch [ term-then-depth-ge-DEPTH-via-then-depth-ge-DEPTH w ↦ inl w.if-depth-ge-DEPTH.true | term-then-depth-ge-DEPTH-via-else-depth-ge-DEPTH+then-len-depth-ge-SUBTERMS w ↦ inr (omega (arith, w.len.ensures, w.if-len-depth-ge-SUBTERMS.true, c.args.program.now.subterms.ok.0)) ] in
-    record { gives = first_full c.args.end d (length subs + d) (length cells) c.args.text.now c.skip-text.result.now c.skip-text.ensures (c.in_ok-first.first, c.in_ok-first.rest) c.in_ok-first.ensures full ∙ ap refused (sym c.passed_limit.ensures); kept = refl }
+    let P = c.args.program.now in
+    let full : (128 ≤ d) ⊎ (2048 ≤ begun d P) = elim c.then-depth-ge-DEPTH.branch [ term-then-depth-ge-DEPTH-via-then-depth-ge-DEPTH w ↦ inl w.if-depth-ge-DEPTH.true | term-then-depth-ge-DEPTH-via-else-depth-ge-DEPTH+then-len-depth-ge-SUBTERMS w ↦ inr (omega (arith, w.len.ensures, w.if-len-depth-ge-SUBTERMS.true, P.subterms.ok.0)) ] in
+    let o = rw c.skip-start.ensures.end at c.in_ok-first.ensures in
+    let stops = first_full c.args.rest.end d (begun d P) (signed P) c.args.rest.bytes.now c.skip-start.result.bytes.now c.skip-start.ensures.bytes (c.in_ok-first.first, c.in_ok-first.rest) o full in
+    record { gives = cc; kept = refl }
 
 pub term-returns : goal.term-returns
 term-returns t c =
     let d = c.args.depth in
-    let subs = vec_items c.args.program.now.subterms in
-    let few : length subs + d < 2048 = omega (arith, c.len.ensures, c.if-len-depth-ge-SUBTERMS.false, c.args.program.now.subterms.ok.0) in
-    read_as (first_read c.args.end d (length subs + d) (length (vec_items c.args.program.now.types)) c.args.text.now c.skip-text.result.now c.skip-text.ensures (c.in_ok-first.first, c.in_ok-first.rest) c.in_ok-first.ensures c.place_of-place.result c.if-depth-ge-DEPTH.false few c.place_of-place.ensures) c.after_first.ensures
+    let P = c.args.program.now in
+    let few : begun d P < 2048 = omega (arith, c.len.ensures, c.if-len-depth-ge-SUBTERMS.false, P.subterms.ok.0) in
+    let o = rw c.skip-start.ensures.end at c.in_ok-first.ensures in
+    let place = rw c.skip-start.ensures.end at c.place-place.ensures in
+    let reads = first_read c.args.rest.end d (begun d P) (signed P) c.args.rest.bytes.now c.skip-start.result.bytes.now c.skip-start.ensures.bytes (c.in_ok-first.first, c.in_ok-first.rest) o c.place-place.result c.if-depth-ge-DEPTH.false few place in
+    read_as reads (rw o.1 at c.after_first.ensures)
 
 pub after_first-returns-in-Name : goal.after_first-returns-in-Name
 after_first-returns-in-Name t c =
-    sign_as c.args.at c.args.text.now c.in-Name.is (name_follows c.args.at c.args.text c.requires c.in-Name.word c.occur-binder.ensures.names c.occur-binder.ensures.binder c.put.ensures)
+    sign_as c.args.at c.args.rest c.in-Name.is (name_follows c.args.at c.args.rest c.requires c.in-Name.word c.occur-binder.ensures.names c.occur-binder.ensures.binder c.put.ensures)
 
 pub after_first-returns-in-Number : goal.after_first-returns-in-Number
 after_first-returns-in-Number t c =
-    sign_as c.args.at c.args.text.now c.in-Number.is (number_follows c.args.at c.args.text c.requires c.in-Number.number c.put-in-Number.ensures)
+    sign_as c.args.at c.args.rest c.in-Number.is (number_follows c.args.at c.args.rest c.requires c.in-Number.number c.put-in-Number.ensures)
 
 pub successor-returns : goal.successor-returns
-successor-returns t c = succ_follows c.args.at c.args.text.now c.in_ok-body.ensures c.put.ensures
-
-pub application-term-requires-2 : goal.application-term-requires-2
-application-term-requires-2 t c = (search rules, next-room c.in_ok-function.ensures (omega (arith, c.requires.room.force)))
+successor-returns t c = succ_follows c.args.at c.args.rest c.in_ok-body.ensures c.put.ensures
 
 pub application-returns : goal.application-returns
-application-returns t c = app_follows c.args.at c.args.text.now c.in_ok-function.ensures c.in_ok-rest.rest c.in_ok-argument.ensures c.in_ok-rest.ensures c.put.ensures
-
-pub pair-term-requires-2 : goal.pair-term-requires-2
-pair-term-requires-2 t c = (search rules, next-room c.in_ok-first.ensures (omega (arith, c.requires.room.force)))
+application-returns t c =
+    let x = c.in_ok-function.ensures in
+    let y = rw x.gives.3 at c.in_ok-argument.ensures in
+    let z = rw y.gives.3 at c.in_ok-rest.ensures in
+    app_follows c.args.at c.args.rest x c.in_ok-rest.rest y z c.put.ensures
 
 pub pair-returns : goal.pair-returns
-pair-returns t c = pair_follows c.args.at c.args.text.now c.in_ok-first.ensures c.in_ok-rest.rest c.in_ok-rest-2.rest c.in_ok-rest.ensures c.in_ok-second.ensures c.in_ok-rest-2.ensures c.put.ensures
-
-pub iterator-term-requires-2 : goal.iterator-term-requires-2
-iterator-term-requires-2 t c = (search rules, next-room c.in_ok-count.ensures (omega (arith, c.requires.room.force)))
-
-pub iterator-term-requires-3 : goal.iterator-term-requires-3
-iterator-term-requires-3 t c =
-    let room = next-room c.in_ok-count.ensures (omega (arith, c.requires.room.force)) in
-    (search rules, next-room c.in_ok-step.ensures room.force)
+pair-returns t c =
+    let x = c.in_ok-first.ensures in
+    let w = rw x.gives.3 at c.in_ok-rest.ensures in
+    let y = rw w.1 at c.in_ok-second.ensures in
+    let z = rw y.gives.3 at c.in_ok-rest-2.ensures in
+    pair_follows c.args.at c.args.rest x c.in_ok-rest.rest c.in_ok-rest-2.rest w y z c.put.ensures
 
 pub iterator-returns : goal.iterator-returns
-iterator-returns t c = iter_follows c.args.at c.args.text.now c.in_ok-count.ensures c.in_ok-step.ensures c.in_ok-base.ensures c.put.ensures
-
-pub body-settle-requires : goal.body-settle-requires
-body-settle-requires t c = omega (arith, kept_force c.args.scope.now c.term.new.scope c.term.ensures.kept, c.requires.own)
+iterator-returns t c =
+    let x = c.in_ok-count.ensures in
+    let y = rw x.gives.3 at c.in_ok-step.ensures in
+    let z = rw y.gives.3 at c.in_ok-base.ensures in
+    iter_follows c.args.at c.args.rest x y z c.put.ensures
 
 pub body-returns-in_err-body : goal.body-returns-in_err-body
 body-returns-in_err-body t c =
@@ -84,106 +82,37 @@ body-returns t c =
     let late = names_of c.term.new.scope in
     let left = c.drop-guard-2.ensures ∙ ap (shut c.args.before) c.settle.ensures in
     record {
-      gives = (x.0, x.1, record { late = late; held = x.2; left = left });
+      gives = (x.0, x.1, record { late = late; held = x.2; left = left }, x.3);
       kept = ap (λ (n : Names). binders_of n.force) left ∙ shut_kept c.args.before late c.args.scope.now c.term.ensures.kept;
     }
-
-pub function-declare-requires : goal.function-declare-requires
-function-declare-requires t c =
-    record { room = omega (arith, bound_count c.args.scope.now, c.requires.room.bound, c.requires.few); short = c.in_ok-head.ensures.gives.2.binder.short }
-
-pub function-enter-requires : goal.function-enter-requires
-function-enter-requires t c =
-    record { room = omega (arith, declared_force _ c.args.scope.now c.declare.new.scope c.declare.ensures, force_count c.args.scope.now, c.requires.room.force, c.requires.deep); short = c.in_ok-head.ensures.gives.2.binder.short }
-
-pub function-body-requires : goal.function-body-requires
-function-body-requires t c =
-    let f = binder_at c.in_ok-head.head.binder in
-    let x = c.in_ok-head.ensures.gives in
-    let S = c.args.scope.now in (
-      search rules,
-      (
-        c.requires.deep,
-        (
-          function-room c.args.at c.args.program.now S c.enter.new.scope f (vec_items c.function_head.new.types) c.requires (c.enter.ensures ∙ ap (enter f) c.declare.ensures) (omega (arith, x.2.counted, x.2.few)),
-          omega (arith, c.len-before.ensures, S.in_force.ok.0, declared_force f S c.declare.new.scope c.declare.ensures, entered_force f c.declare.new.scope c.enter.new.scope c.enter.ensures),
-        ),
-      ),
-    )
-
-pub function-returns-in_err-body : goal.function-returns-in_err-body
-function-returns-in_err-body t c =
-    let f = binder_at c.in_ok-head.head.binder in
-    let S = c.args.scope.now in
-    let high : c.len-before.result ≡ length (names_of S).force = omega (arith, c.len-before.ensures, S.in_force.ok.0, force_count S) in
-    let q = err_from_is_err_and c.from_residual-in_err-body.result c.from_residual-in_err-body.ensures.1 in
-    rw (q.1, q.2) (function_stopped c.args.at c.args.text.now c.args.program.now _ S c.enter.new.scope c.len-before.result c.in_ok-head.head c.in_ok-head.rest (c.enter.ensures ∙ ap (enter f) c.declare.ensures) high c.in_err-body.ensures refl c.in_ok-head.ensures.gives)
 
 pub function-returns : goal.function-returns
 function-returns t c =
     let f = binder_at c.in_ok-head.head.binder in
     let S = c.args.scope.now in
+    let x = c.in_ok-head.ensures in
     let high : c.len-before.result ≡ length (names_of S).force = omega (arith, c.len-before.ensures, S.in_force.ok.0, force_count S) in
-    function_follows c.args.at c.args.text.now c.args.program.now _ S c.enter.new.scope c.len-before.result c.in_ok-head.head c.in_ok-head.rest (c.enter.ensures ∙ ap (enter f) c.declare.ensures) high c.in_ok-body.ensures refl c.in_ok-head.ensures.gives c.put.ensures
-
-pub let_in-declare-requires : goal.let_in-declare-requires
-let_in-declare-requires t c =
-    record { room = omega (arith, bound_count c.args.scope.now, c.requires.room.bound, c.requires.few); short = c.in_ok-first.ensures.2.0.short }
-
-pub let_in-declare-requires-2 : goal.let_in-declare-requires-2
-let_in-declare-requires-2 t c =
-    record { room = omega (arith, declared_bound _ c.args.scope.now c.declare.new.scope c.declare.ensures, bound_count c.args.scope.now, c.requires.room.bound, c.requires.few); short = c.in_ok-first.ensures.2.1.short }
-
-pub let_in-term-requires : goal.let_in-term-requires
-let_in-term-requires t c =
-    let f = binder_at c.in_ok-first.first in
-    let g = binder_at c.in_ok-first.second in
-    (search rules, pair_room c.args.at c.args.program.now c.args.scope.now c.declare-2.new.scope f g (c.declare-2.ensures ∙ ap (declare g) c.declare.ensures) c.requires)
-
-pub let_in-enter-requires : goal.let_in-enter-requires
-let_in-enter-requires t c =
-    let S = c.args.scope.now in
-    let S₂ = c.declare-2.new.scope in
-    let same = kept_force S₂ c.term.new.scope c.in_ok-pair.ensures.kept in
-    record { room = omega (arith, same, declared_force _ S c.declare.new.scope c.declare.ensures, declared_force _ c.declare.new.scope S₂ c.declare-2.ensures, force_count S, c.requires.room.force, c.requires.deep); short = c.in_ok-first.ensures.2.0.short }
-
-pub let_in-enter-requires-2 : goal.let_in-enter-requires-2
-let_in-enter-requires-2 t c =
-    let S = c.args.scope.now in
-    let S₂ = c.declare-2.new.scope in
-    let same = kept_force S₂ c.term.new.scope c.in_ok-pair.ensures.kept in
-    record { room = omega (arith, same, declared_force _ S c.declare.new.scope c.declare.ensures, declared_force _ c.declare.new.scope S₂ c.declare-2.ensures, entered_force _ c.term.new.scope c.enter.new.scope c.enter.ensures, force_count S, c.requires.room.force, c.requires.deep); short = c.in_ok-first.ensures.2.1.short }
-
-pub let_in-body-requires : goal.let_in-body-requires
-let_in-body-requires t c =
-    let f = binder_at c.in_ok-first.first in
-    let g = binder_at c.in_ok-first.second in
-    let S₃ = c.term.new.scope in (
-      search rules,
-      (
-        c.requires.deep,
-        (
-          let_room c.args.at c.args.program.now c.args.scope.now c.declare-2.new.scope f g (c.declare-2.ensures ∙ ap (declare g) c.declare.ensures) c.in_ok-first.rest.now c.in_ok-pair.ensures c.enter-2.new.scope (c.enter-2.ensures ∙ ap (enter g) c.enter.ensures) c.requires,
-          omega (arith, c.len-before.ensures, S₃.in_force.ok.0, entered_force f S₃ c.enter.new.scope c.enter.ensures, entered_force g c.enter.new.scope c.enter-2.new.scope c.enter-2.ensures),
-        ),
-      ),
-    )
+    function_follows c.args.at c.args.rest c.args.program.now _ S c.enter.new.self c.len-before.result c.in_ok-head.head c.in_ok-head.rest (c.enter.ensures ∙ ap (enter f) c.declare.ensures) high x (rw x.3 at c.in_ok-body.ensures) c.put.ensures
 
 pub let_in-returns-in_err-body : goal.let_in-returns-in_err-body
 let_in-returns-in_err-body t c =
     let f = binder_at c.in_ok-first.first in
     let g = binder_at c.in_ok-first.second in
     let w = c.in_ok-first.ensures in
+    let x = rw w.3 at c.in_ok-pair.ensures in
+    let z = rw x.gives.3 at c.in_ok-rest.ensures in
     let S₃ = c.term.new.scope in
     let high : c.len-before.result ≡ length (names_of S₃).force = omega (arith, c.len-before.ensures, S₃.in_force.ok.0, force_count S₃) in
     let q = err_from_is_err_and c.from_residual-in_err-body.result c.from_residual-in_err-body.ensures.1 in
-    rw (q.1, q.2) (let_stopped c.args.at c.args.program.now c.args.scope.now c.declare-2.new.scope f g (c.declare-2.ensures ∙ ap (declare g) c.declare.ensures) c.in_ok-first.rest.now c.in_ok-pair.ensures c.enter-2.new.scope (c.enter-2.ensures ∙ ap (enter g) c.enter.ensures) c.args.text.now c.len-before.result c.in_ok-rest.rest high (both_read w.1 w.2.0.is w.2.1.is) c.in_ok-rest.ensures c.in_err-body.ensures)
+    rw (q.1, q.2) (let_stopped c.args.at c.args.rest c.args.program.now c.args.scope.now c.declare-2.new.self f g (c.declare-2.ensures ∙ ap (declare g) c.declare.ensures) c.in_ok-first.rest.bytes.now x c.enter-2.new.self (c.enter-2.ensures ∙ ap (enter g) c.enter.ensures) c.len-before.result c.in_ok-rest.rest high (both_read w.1 w.2.0.is w.2.1.is) z (rw z.1 at c.in_err-body.ensures))
 
 pub let_in-returns : goal.let_in-returns
 let_in-returns t c =
     let f = binder_at c.in_ok-first.first in
     let g = binder_at c.in_ok-first.second in
     let w = c.in_ok-first.ensures in
+    let x = rw w.3 at c.in_ok-pair.ensures in
+    let z = rw x.gives.3 at c.in_ok-rest.ensures in
     let S₃ = c.term.new.scope in
     let high : c.len-before.result ≡ length (names_of S₃).force = omega (arith, c.len-before.ensures, S₃.in_force.ok.0, force_count S₃) in
-    let_follows c.args.at c.args.program.now c.args.scope.now c.declare-2.new.scope f g (c.declare-2.ensures ∙ ap (declare g) c.declare.ensures) c.in_ok-first.rest.now c.in_ok-pair.ensures c.enter-2.new.scope (c.enter-2.ensures ∙ ap (enter g) c.enter.ensures) c.args.text.now c.len-before.result c.in_ok-rest.rest high (both_read w.1 w.2.0.is w.2.1.is) c.in_ok-rest.ensures c.in_ok-body.ensures c.put.ensures
+    let_follows c.args.at c.args.rest c.args.program.now c.args.scope.now c.declare-2.new.self f g (c.declare-2.ensures ∙ ap (declare g) c.declare.ensures) c.in_ok-first.rest.bytes.now x c.enter-2.new.self (c.enter-2.ensures ∙ ap (enter g) c.enter.ensures) c.len-before.result c.in_ok-rest.rest high (both_read w.1 w.2.0.is w.2.1.is) z (rw z.1 at c.in_ok-body.ensures) c.put.ensures

@@ -3,23 +3,23 @@ use Rattle.language.proofs.Whole.{whole_ready, whole_stop, whole_type, whole_cou
 use Rattle.language.proofs.checker.Checker.conclude.Goals as goal
 
 pub check-requires : goal.check-requires
-check-requires c = whole_ready c.args.subs.now c.args.cells.now c.args.root c.begin.new.self (record { types = c.begin.ensures.cells; typings = c.begin.ensures.typings; context = c.begin.ensures.context; number = c.begin.ensures.number }) c.requires
+check-requires c = whole_ready c.begin.ensures c.requires
 
 pub returns-in_err-cell : goal.returns-in_err-cell
 returns-in_err-cell c =
     let p = err_from_is_err_and c.from_residual.result c.from_residual.ensures.1 in
-    rw (p.1, p.2) (whole_stop c.args.subs.now c.args.cells.now c.args.root c.begin.new.self (record { types = c.begin.ensures.cells; typings = c.begin.ensures.typings; context = c.begin.ensures.context; number = c.begin.ensures.number }) c.check.new.self _ c.in_err-cell.ensures)
+    rw (p.1, p.2) (whole_stop c.begin.ensures c.in_err-cell.ensures)
 
 pub ask_number-requires : goal.ask_number-requires
-ask_number-requires c = whole_type c.args.subs.now c.args.cells.now c.args.root c.begin.new.self (record { types = c.begin.ensures.cells; typings = c.begin.ensures.typings; context = c.begin.ensures.context; number = c.begin.ensures.number }) c.check.new.self c.in_ok-cell.cell c.in_ok-cell.ensures c.requires
+ask_number-requires c = whole_type c.begin.ensures c.in_ok-cell.ensures c.requires
 
 pub returns-in_err-ask_number : goal.returns-in_err-ask_number
 returns-in_err-ask_number c =
     let p = err_from_is_err_and c.from_residual-in_err-ask_number.result c.from_residual-in_err-ask_number.ensures.1 in
-    rw (p.1, p.2) (whole_other c.args.subs.now c.args.cells.now c.args.root c.begin.new.self (record { types = c.begin.ensures.cells; typings = c.begin.ensures.typings; context = c.begin.ensures.context; number = c.begin.ensures.number }) c.check.new.self c.in_ok-cell.cell c.in_ok-cell.ensures _ c.in_err-ask_number.ensures)
+    rw (p.1, p.2) (whole_other c.begin.ensures c.in_ok-cell.ensures _ c.in_err-ask_number.ensures)
 
 pub counted-requires : goal.counted-requires
-counted-requires c = whole_countable c.args.subs.now c.args.cells.now c.args.root c.begin.new.self (record { types = c.begin.ensures.cells; typings = c.begin.ensures.typings; context = c.begin.ensures.context; number = c.begin.ensures.number }) c.check.new.self c.in_ok-cell.cell c.in_ok-cell.ensures c.requires
+counted-requires c = whole_countable c.begin.ensures c.in_ok-cell.ensures c.requires
 
 pub returns : goal.returns
-returns c = whole_done c.args.subs.now c.args.cells.now c.args.root c.begin.new.self (record { types = c.begin.ensures.cells; typings = c.begin.ensures.typings; context = c.begin.ensures.context; number = c.begin.ensures.number }) c.check.new.self c.in_ok-cell.cell c.in_ok-cell.ensures c.in_ok-ask_number.ensures c.counted.result c.counted.ensures
+returns c = whole_done c.begin.ensures c.in_ok-cell.ensures c.in_ok-ask_number.ensures c.counted.result c.counted.ensures

@@ -1,6 +1,8 @@
-use Rattle.std.proofs.Common.{rules}
 use Rattle.language.proofs.Cells.{nothing}
 use Rattle.language.proofs.table.TypeTable.clear.Goals as goal
 
-pub invariant_of-self : goal.invariant_of-self
-invariant_of-self c = record { cells_fit = search rules; measures_fit = search rules; long = search rules; heights = λ k A d. absurd (nothing _ c.clear.ensures.items k A d); counts = λ k A d. absurd (nothing _ c.clear.ensures.items k A d) }
+pub invariant_of-self-clause-heights : goal.invariant_of-self-clause-heights
+invariant_of-self-clause-heights c = λ k A d. absurd (nothing _ c.clear.ensures.items k A d)
+
+pub invariant_of-self-clause-counts : goal.invariant_of-self-clause-counts
+invariant_of-self-clause-counts c = λ k A d. absurd (nothing _ c.clear.ensures.items k A d)

@@ -7,12 +7,12 @@ use Rattle.network.proofs.build.Builder.nodes_needed.Goals as goal
 
 pub overflow_add-result : goal.overflow_add-result
 overflow_add-result c =
-    let v = c.in_ok-whole.ensures.checked in
+    let v = c.in_ok-whole.ensures in
     let e = ap (λ q. get_or q c.in_ok-whole.whole no_part) (sym c.deref.ensures.value) ∙ c.part_at.ensures in
     omega (arith, nodes_are _ _ (term_of v.0) _ e v.2, few_nodes _ v.0 v.1)
 
 pub returns : goal.returns
 returns c =
-    let v = c.in_ok-whole.ensures.checked in
+    let v = c.in_ok-whole.ensures in
     let e = ap (λ q. get_or q c.in_ok-whole.whole no_part) (sym c.deref.ensures.value) ∙ c.part_at.ensures in
     (v.0, v.1, ap (λ q. 1 + q) (nodes_are _ _ (term_of v.0) _ e v.2))

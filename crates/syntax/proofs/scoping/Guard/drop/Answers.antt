@@ -1,7 +1,7 @@
 use Rattle.std.proofs.Common.{List, map, vec_items, sym, ap, ◌∙◌}
 use Rattle.syntax.specs.Scopes.{InForce, Names}
 use Rattle.syntax.specs.Held.{spelled, name_in_force}
-use Rattle.syntax.proofs.NameSteps.{take-map}
+use Rattle.std.proofs.lemmas.List.{take-map}
 use Rattle.syntax.proofs.scoping.Guard.drop.Goals as goal
 
 pub returns : goal.returns

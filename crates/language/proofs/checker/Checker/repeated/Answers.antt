@@ -1,9 +1,0 @@
-use Rattle.std.proofs.Common.{◌∙◌}
-use Rattle.language.proofs.Cells.{reads}
-use Rattle.language.proofs.checker.Checker.repeated.Goals as goal
-
-pub same-requires : goal.same-requires
-same-requires c = let m = reads _ _ _ _ (c.cell.ensures ∙ c.in-Arrow.is) c.requires.step.1 in record { left = (_, m.first); right = (_, m.second) }
-
-pub same-requires-then-same : goal.same-requires-then-same
-same-requires-then-same c = let m = reads _ _ _ _ (c.cell.ensures ∙ c.in-Arrow.is) c.requires.step.1 in record { left = (_, m.first); right = c.requires.base }

@@ -1,4 +1,0 @@
-use Rattle.network.proofs.wire.+gather.Given as goal
-
-abbrev pub decreases-gather : goal.decreases-gather
-decreases-gather l = l.i
