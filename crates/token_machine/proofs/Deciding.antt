@@ -1,5 +1,6 @@
 -- Going through the table by kind, port and tops finds the row that applies.
 use Rattle.std.proofs.Common.{◌≡◌, ℕ, suc, ◌+◌, ◌-◌, ◌≤◌, Bool, true, false, cond, not, ◌&&◌, eqb, ltb, leb, ◌⊎◌, List, [], ◌∷◌, length, get_or, Some, None, Ok, Err, Result, refl, ap, ◌∙◌, subst, inl, inr, arith}
+use Rattle.std.proofs.Math.Bool.{and-false}
 use Rattle.std.proofs.lemmas.Bool.Decides.{nat_tests}
 use Rattle.cells.specs.declared.kinds.Kind.{Kind}
 use Rattle.cells.specs.declared.kinds.Kind.TheVariants as kind
@@ -84,6 +85,10 @@ Decides k p v s = Decided k p v s (through k v p (tops_of v s))
 abbrev nth : ℕ → Row
 nth n = get_or table n (record { kind = kind.Root; port = First; top = anything; change = ask; exit = First })
 
+-- by a row that leaves the shelves alone
+by_row : {k : Kind} {p : Port} {v : ℕ} {s : Stacks} {m : Passage} (r : Row) → first_row k p v s table ≡ Some r → r.exit ≡ m.exit → changed r.change v s ≡ passed v m s → m.shelf ≡ Keep → (LowTops (tops_of v s) → v ≤ largest → small (changed r.change v s) ≡ true) → Agrees k p v s m
+by_row r f e c k l = record { row = r; found = f; exit = e; change = c; lows = l; shelf = inl k }
+
 less : (a : ℕ) → a ≤ largest → a - 1 ≤ largest
 less a h = omega arith
 
@@ -99,12 +104,12 @@ positive_test a = grind (arith, nat_tests)
 -- n
 
 at_own : (v a : ℕ) (ls : List Letter) (cs : List IterCell) (ds : List DataCell) (ss : List (List IterCell)) (b : Bool) → eqb a v ≡ b → Decided kind.Number First v (stacks ls cs (dat.Number a ∷ ds) ss) (cond b (Ok (on_datas (Replace dat.Question) First)) (Err reason.NoRow))
-at_own v a ls cs ds ss true e = record { row = nth 1; found = rw e; exit = refl; change = refl; lows = λ h l. low_iter cs h.iter; shelf = inl refl }
+at_own v a ls cs ds ss true e = by_row (nth 1) (rw e) refl refl refl (λ h l. low_iter cs h.iter)
 at_own v a ls cs ds ss false e = rw e
 
 at_number_lem : (p : Port) (v : ℕ) (ls : List Letter) (cs : List IterCell) (ds : List DataCell) (ss : List (List IterCell)) → Decides kind.Number p v (stacks ls cs ds ss)
 at_number_lem First v ls cs [] ss = refl
-at_number_lem First v ls cs (dat.Question ∷ ds) ss = record { row = nth 0; found = refl; exit = refl; change = refl; lows = λ h l. and_true _ _ (leb_yes v largest l) (low_iter cs h.iter); shelf = inl refl }
+at_number_lem First v ls cs (dat.Question ∷ ds) ss = by_row (nth 0) refl refl refl refl (λ h l. and_true _ _ (leb_yes v largest l) (low_iter cs h.iter))
 at_number_lem First v ls cs (dat.Number a ∷ ds) ss = at_own v a ls cs ds ss (eqb a v) refl
 at_number_lem Second v ls cs ds ss = refl
 at_number_lem Third v ls cs ds ss = refl
@@ -120,23 +125,23 @@ shrunk rs v a b ls cs ds ss h =
     and_true _ _ x (and_true _ _ y (and_true _ _ (leb_yes (suc (length ds)) rs.datas (omega arith)) w))
 
 at_raise : (v a : ℕ) (ls : List Letter) (cs : List IterCell) (ds : List DataCell) (ss : List (List IterCell)) (b : Bool) → ltb a 4294967295 ≡ b → Decided kind.Successor First v (stacks ls cs (dat.Number a ∷ (dat.Question ∷ ds)) ss) (with_more (cond b (Ok (a + 1)) (Err reason.Overflow)) (λ n. on_datas (Join (dat.Number n)) Second))
-at_raise v a ls cs ds ss true e = record { row = nth 5; found = refl; exit = refl; change = refl; lows = λ h l. and_true _ _ (leb_yes (a + 1) largest (more a e)) (low_iter cs h.iter); shelf = inl refl }
+at_raise v a ls cs ds ss true e = by_row (nth 5) refl refl refl refl (λ h l. and_true _ _ (leb_yes (a + 1) largest (more a e)) (low_iter cs h.iter))
 at_raise v a ls cs ds ss false e = record { row = nth 5; found = refl; large = ap (λ t. t && low_i cs) (too_many a e); size = λ rs h. shrunk rs v a (a + 1) ls cs ds ss h }
 
 at_lower : (v a : ℕ) (ls : List Letter) (cs : List IterCell) (ds : List DataCell) (ss : List (List IterCell)) (b : Bool) → ltb 0 a ≡ b → Decided kind.Successor Second v (stacks ls cs (dat.Number a ∷ ds) ss) (cond b (Ok (on_datas (Split dat.Question (dat.Number (a - 1))) First)) (Err reason.NoRow))
-at_lower v a ls cs ds ss true e = record { row = nth 4; found = rw (positive_test a, e); exit = refl; change = refl; lows = λ h l. and_true _ _ (leb_yes (a - 1) largest (less a h.datum)) (low_iter cs h.iter); shelf = inl refl }
+at_lower v a ls cs ds ss true e = by_row (nth 4) (rw (positive_test a, e)) refl refl refl (λ h l. and_true _ _ (leb_yes (a - 1) largest (less a h.datum)) (low_iter cs h.iter))
 at_lower v a ls cs ds ss false e = rw (positive_test a, e)
 
 at_successor_lem : (p : Port) (v : ℕ) (ls : List Letter) (cs : List IterCell) (ds : List DataCell) (ss : List (List IterCell)) → Decides kind.Successor p v (stacks ls cs ds ss)
 at_successor_lem First v ls cs [] ss = refl
 at_successor_lem First v ls cs (dat.Question ∷ []) ss = refl
-at_successor_lem First v ls cs (dat.Question ∷ (dat.Question ∷ ds)) ss = record { row = nth 3; found = refl; exit = refl; change = refl; lows = λ h l. low_iter cs h.iter; shelf = inl refl }
+at_successor_lem First v ls cs (dat.Question ∷ (dat.Question ∷ ds)) ss = by_row (nth 3) refl refl refl refl (λ h l. low_iter cs h.iter)
 at_successor_lem First v ls cs (dat.Question ∷ (dat.Number b ∷ ds)) ss = refl
 at_successor_lem First v ls cs (dat.Number a ∷ []) ss = refl
 at_successor_lem First v ls cs (dat.Number a ∷ (dat.Question ∷ ds)) ss = at_raise v a ls cs ds ss (ltb a 4294967295) refl
 at_successor_lem First v ls cs (dat.Number a ∷ (dat.Number b ∷ ds)) ss = refl
 at_successor_lem Second v ls cs [] ss = refl
-at_successor_lem Second v ls cs (dat.Question ∷ ds) ss = record { row = nth 2; found = refl; exit = refl; change = refl; lows = λ h l. low_iter cs h.iter; shelf = inl refl }
+at_successor_lem Second v ls cs (dat.Question ∷ ds) ss = by_row (nth 2) refl refl refl refl (λ h l. low_iter cs h.iter)
 at_successor_lem Second v ls cs (dat.Number a ∷ ds) ss = at_lower v a ls cs ds ss (ltb 0 a) refl
 at_successor_lem Third v ls cs ds ss = refl
 
@@ -147,20 +152,20 @@ same_low v ls ks cs ds ss h = and_true _ _ (low_data ds h.datum) (low_iter cs h.
 
 at_multiplexer_lem : (p : Port) (v : ℕ) (ls : List Letter) (cs : List IterCell) (ds : List DataCell) (ss : List (List IterCell)) → Decides kind.Multiplexer p v (stacks ls cs ds ss)
 at_multiplexer_lem First v [] cs ds ss = refl
-at_multiplexer_lem First v (Left ∷ ls) cs ds ss = record { row = nth 7; found = refl; exit = refl; change = refl; lows = λ h l. same_low v (Left ∷ ls) ls cs ds ss h; shelf = inl refl }
-at_multiplexer_lem First v (Right ∷ ls) cs ds ss = record { row = nth 9; found = refl; exit = refl; change = refl; lows = λ h l. same_low v (Right ∷ ls) ls cs ds ss h; shelf = inl refl }
-at_multiplexer_lem Second v ls cs ds ss = record { row = nth 6; found = refl; exit = refl; change = refl; lows = λ h l. same_low v ls (Left ∷ ls) cs ds ss h; shelf = inl refl }
-at_multiplexer_lem Third v ls cs ds ss = record { row = nth 8; found = refl; exit = refl; change = refl; lows = λ h l. same_low v ls (Right ∷ ls) cs ds ss h; shelf = inl refl }
+at_multiplexer_lem First v (Left ∷ ls) cs ds ss = by_row (nth 7) refl refl refl refl (λ h l. same_low v (Left ∷ ls) ls cs ds ss h)
+at_multiplexer_lem First v (Right ∷ ls) cs ds ss = by_row (nth 9) refl refl refl refl (λ h l. same_low v (Right ∷ ls) ls cs ds ss h)
+at_multiplexer_lem Second v ls cs ds ss = by_row (nth 6) refl refl refl refl (λ h l. same_low v ls (Left ∷ ls) cs ds ss h)
+at_multiplexer_lem Third v ls cs ds ss = by_row (nth 8) refl refl refl refl (λ h l. same_low v ls (Right ∷ ls) cs ds ss h)
 
 -- I
 
 at_iterator_lem : (p : Port) (v : ℕ) (ls : List Letter) (cs : List IterCell) (ds : List DataCell) (ss : List (List IterCell)) → Decides kind.Iterator p v (stacks ls cs ds ss)
 at_iterator_lem First v ls cs [] ss = refl
-at_iterator_lem First v ls cs (dat.Question ∷ ds) ss = record { row = nth 11; found = refl; exit = refl; change = refl; lows = λ h l. and_true _ _ (low_data ds h.under_datum) (low_iter cs h.iter); shelf = inl refl }
-at_iterator_lem First v ls cs (dat.Number a ∷ ds) ss = record { row = nth 12; found = refl; exit = refl; change = refl; lows = λ h l. and_true _ _ (low_data ds h.under_datum) (leb_yes a largest h.datum); shelf = inl refl }
-at_iterator_lem Second v ls cs ds ss = record { row = nth 10; found = refl; exit = refl; change = refl; lows = λ h l. low_iter cs h.iter; shelf = inl refl }
+at_iterator_lem First v ls cs (dat.Question ∷ ds) ss = by_row (nth 11) refl refl refl refl (λ h l. and_true _ _ (low_data ds h.under_datum) (low_iter cs h.iter))
+at_iterator_lem First v ls cs (dat.Number a ∷ ds) ss = by_row (nth 12) refl refl refl refl (λ h l. and_true _ _ (low_data ds h.under_datum) (leb_yes a largest h.datum))
+at_iterator_lem Second v ls cs ds ss = by_row (nth 10) refl refl refl refl (λ h l. low_iter cs h.iter)
 at_iterator_lem Third v ls [] ds ss = refl
-at_iterator_lem Third v ls (iter.Number a ∷ cs) ds ss = record { row = nth 13; found = refl; exit = refl; change = refl; lows = λ h l. and_true _ _ (leb_yes a largest h.iter) (low_iter cs h.under_iter); shelf = inl refl }
+at_iterator_lem Third v ls (iter.Number a ∷ cs) ds ss = by_row (nth 13) refl refl refl refl (λ h l. and_true _ _ (leb_yes a largest h.iter) (low_iter cs h.under_iter))
 at_iterator_lem Third v ls (iter.Pair a b ∷ cs) ds ss = refl
 
 -- c and c'
@@ -169,17 +174,12 @@ low_pair : (σ : Side) (n k : ℕ) (cs : List IterCell) → n ≤ largest → k 
 low_pair side.Left n k cs h l = and_true _ _ (leb_yes n largest h) (leb_yes k largest l)
 low_pair side.Right n k cs h l = and_true _ _ (leb_yes k largest l) (leb_yes n largest h)
 
+pub high : (a b : Bool) → b ≡ false → (a && b) ≡ false
+high a b e = ap (λ t. a && t) e ∙ and-false a
+
 high_pair : (σ : Side) (n k : ℕ) (cs : List IterCell) → leb n largest ≡ false → low_i (pair_on σ n k ∷ cs) ≡ false
 high_pair side.Left n k cs h = ap (λ t. t && leb k largest) h
-high_pair side.Right n k cs h = ap (λ t. leb k largest && t) h ∙ never (leb k largest)
-  where
-    never : (b : Bool) → (b && false) ≡ false
-    never true = refl
-    never false = refl
-
-high : (a b : Bool) → b ≡ false → (a && b) ≡ false
-high true b e = e
-high false b e = refl
+high_pair side.Right n k cs h = high (leb k largest) _ h
 
 low_count : (σ : Side) (a b : ℕ) → (a ≤ largest) × (b ≤ largest) → count_of σ a b ≤ largest
 low_count side.Left a b h = h.0
@@ -199,16 +199,16 @@ rows side.Left n = nth (14 + n)
 rows side.Right n = nth (18 + n)
 
 counts_up : (σ : Side) (v a b : ℕ) (ls : List Letter) (cs : List IterCell) (ds : List DataCell) (ss : List (List IterCell)) (t : Bool) → ltb (count_of σ a b) 4294967295 ≡ t → Decided (counter σ) Third v (stacks ls (iter.Pair a b ∷ cs) ds ss) (with_more (cond t (Ok (count_of σ a b + 1)) (Err reason.Overflow)) (λ n. on_iters (Replace (pair_on σ n (kept_of σ a b))) First))
-counts_up side.Left v a b ls cs ds ss true e = record { row = rows side.Left 2; found = refl; exit = refl; change = refl; lows = λ h l. and_true _ _ (low_data ds h.datum) (low_pair side.Left (a + 1) b cs (more a e) (low_kept side.Left a b h.iter)); shelf = inl refl }
-counts_up side.Right v a b ls cs ds ss true e = record { row = rows side.Right 2; found = refl; exit = refl; change = refl; lows = λ h l. and_true _ _ (low_data ds h.datum) (low_pair side.Right (b + 1) a cs (more b e) (low_kept side.Right a b h.iter)); shelf = inl refl }
+counts_up side.Left v a b ls cs ds ss true e = by_row (rows side.Left 2) refl refl refl refl (λ h l. and_true _ _ (low_data ds h.datum) (low_pair side.Left (a + 1) b cs (more a e) (low_kept side.Left a b h.iter)))
+counts_up side.Right v a b ls cs ds ss true e = by_row (rows side.Right 2) refl refl refl refl (λ h l. and_true _ _ (low_data ds h.datum) (low_pair side.Right (b + 1) a cs (more b e) (low_kept side.Right a b h.iter)))
 counts_up side.Left v a b ls cs ds ss false e = record { row = rows side.Left 2; found = refl; large = high (low_d ds) _ (high_pair side.Left (a + 1) b cs (too_many a e)); size = λ rs h. h }
 counts_up side.Right v a b ls cs ds ss false e = record { row = rows side.Right 2; found = refl; large = high (low_d ds) _ (high_pair side.Right (b + 1) a cs (too_many b e)); size = λ rs h. h }
 
 counts_down : (σ : Side) (v a b : ℕ) (ls : List Letter) (cs : List IterCell) (ds : List DataCell) (ss : List (List IterCell)) (t : Bool) → eqb (count_of σ a b) 0 ≡ t → Decided (counter σ) First v (stacks ls (iter.Pair a b ∷ cs) ds ss) (cond t (Ok (on_iters (Replace (iter.Number (kept_of σ a b))) Second)) (Ok (on_iters (Replace (pair_on σ (count_of σ a b - 1) (kept_of σ a b))) Third)))
-counts_down side.Left v a b ls cs ds ss true e = record { row = rows side.Left 1; found = rw e; exit = refl; change = refl; lows = λ h l. and_true _ _ (low_data ds h.datum) (leb_yes b largest h.iter.1); shelf = inl refl }
-counts_down side.Right v a b ls cs ds ss true e = record { row = rows side.Right 1; found = rw e; exit = refl; change = refl; lows = λ h l. and_true _ _ (low_data ds h.datum) (leb_yes a largest h.iter.0); shelf = inl refl }
-counts_down side.Left v a b ls cs ds ss false e = record { row = rows side.Left 3; found = rw e; exit = refl; change = refl; lows = λ h l. and_true _ _ (low_data ds h.datum) (low_pair side.Left (a - 1) b cs (less a h.iter.0) h.iter.1); shelf = inl refl }
-counts_down side.Right v a b ls cs ds ss false e = record { row = rows side.Right 3; found = rw e; exit = refl; change = refl; lows = λ h l. and_true _ _ (low_data ds h.datum) (low_pair side.Right (b - 1) a cs (less b h.iter.1) h.iter.0); shelf = inl refl }
+counts_down side.Left v a b ls cs ds ss true e = by_row (rows side.Left 1) (rw e) refl refl refl (λ h l. and_true _ _ (low_data ds h.datum) (leb_yes b largest h.iter.1))
+counts_down side.Right v a b ls cs ds ss true e = by_row (rows side.Right 1) (rw e) refl refl refl (λ h l. and_true _ _ (low_data ds h.datum) (leb_yes a largest h.iter.0))
+counts_down side.Left v a b ls cs ds ss false e = by_row (rows side.Left 3) (rw e) refl refl refl (λ h l. and_true _ _ (low_data ds h.datum) (low_pair side.Left (a - 1) b cs (less a h.iter.0) h.iter.1))
+counts_down side.Right v a b ls cs ds ss false e = by_row (rows side.Right 3) (rw e) refl refl refl (λ h l. and_true _ _ (low_data ds h.datum) (low_pair side.Right (b - 1) a cs (less b h.iter.1) h.iter.0))
 
 none_low : 0 ≤ largest
 none_low = omega arith
@@ -219,7 +219,7 @@ at_counter_lem side.Left Second v ls [] ds ss = refl
 at_counter_lem side.Left Third v ls [] ds ss = refl
 at_counter_lem side.Left First v ls (iter.Number a ∷ cs) ds ss = refl
 at_counter_lem side.Left First v ls (iter.Pair a b ∷ cs) ds ss = counts_down side.Left v a b ls cs ds ss (eqb a 0) refl
-at_counter_lem side.Left Second v ls (iter.Number a ∷ cs) ds ss = record { row = rows side.Left 0; found = refl; exit = refl; change = refl; lows = λ h l. and_true _ _ (low_data ds h.datum) (low_pair side.Left 0 a cs none_low h.iter); shelf = inl refl }
+at_counter_lem side.Left Second v ls (iter.Number a ∷ cs) ds ss = by_row (rows side.Left 0) refl refl refl refl (λ h l. and_true _ _ (low_data ds h.datum) (low_pair side.Left 0 a cs none_low h.iter))
 at_counter_lem side.Left Second v ls (iter.Pair a b ∷ cs) ds ss = refl
 at_counter_lem side.Left Third v ls (iter.Number a ∷ cs) ds ss = refl
 at_counter_lem side.Left Third v ls (iter.Pair a b ∷ cs) ds ss = counts_up side.Left v a b ls cs ds ss (ltb a 4294967295) refl
@@ -228,7 +228,7 @@ at_counter_lem side.Right Second v ls [] ds ss = refl
 at_counter_lem side.Right Third v ls [] ds ss = refl
 at_counter_lem side.Right First v ls (iter.Number a ∷ cs) ds ss = refl
 at_counter_lem side.Right First v ls (iter.Pair a b ∷ cs) ds ss = counts_down side.Right v a b ls cs ds ss (eqb b 0) refl
-at_counter_lem side.Right Second v ls (iter.Number a ∷ cs) ds ss = record { row = rows side.Right 0; found = refl; exit = refl; change = refl; lows = λ h l. and_true _ _ (low_data ds h.datum) (low_pair side.Right 0 a cs none_low h.iter); shelf = inl refl }
+at_counter_lem side.Right Second v ls (iter.Number a ∷ cs) ds ss = by_row (rows side.Right 0) refl refl refl refl (λ h l. and_true _ _ (low_data ds h.datum) (low_pair side.Right 0 a cs none_low h.iter))
 at_counter_lem side.Right Second v ls (iter.Pair a b ∷ cs) ds ss = refl
 at_counter_lem side.Right Third v ls (iter.Number a ∷ cs) ds ss = refl
 at_counter_lem side.Right Third v ls (iter.Pair a b ∷ cs) ds ss = counts_up side.Right v a b ls cs ds ss (ltb b 4294967295) refl

@@ -1,5 +1,5 @@
 -- Stacks that hold nothing.
-use Rattle.std.proofs.Common.{◌≡◌, ℕ, suc, ◌+◌, Bool, true, false, ◌&&◌, eqb, List, [], ◌∷◌, length, refl, ap, ◌∙◌, arith}
+use Rattle.std.proofs.Common.{◌≡◌, ℕ, suc, ◌+◌, false, ◌&&◌, eqb, List, [], ◌∷◌, length, refl, ap, ◌∙◌, arith}
 use Rattle.std.proofs.lemmas.Bool.Decides.{nat_tests}
 use Rattle.stack.specs.Shelving.{cells_held}
 use Rattle.token.specs.State.{is_empty, all_empty}
@@ -20,6 +20,5 @@ all_empty_lem (xs ∷ ls) =
     none_in_all (length xs) (cells_held ls)
     ∙ ap (λ b. b && eqb (cells_held ls) 0) (is_empty_lem xs) ∙ ap (λ b. is_empty xs && b) (all_empty_lem ls)
 
-pub and_regroup : (a b c : Bool) → ((a && b) && c) ≡ (a && (b && c))
-and_regroup true b c = refl
-and_regroup false b c = refl
+-- what is asked of each stack, in turn
+pub ruleset emptiness = (is_empty_lem, all_empty_lem)

@@ -1,7 +1,7 @@
 -- What the parts of a step come to, put together.
 use Rattle.std.proofs.Common.{◌≡◌, ℕ, zero, suc, ◌+◌, ◌/◌, ◌<◌, ◌≤◌, min, Bool, true, false, cond, not, ◌&&◌, eqb, ltb, leb, ◌⊎◌, List, [], ◌∷◌, length, get_or, set, Some, None, Ok, Err, Option, Result, sym, refl, ap, ◌∙◌, subst, inl, inr, arith}
 use Rattle.std.proofs.lemmas.Bool.Decides.{nat_tests}
-use Rattle.std.proofs.lemmas.List.{get_or-set_same, set-get_or}
+use Rattle.std.proofs.lemmas.List.{get_or-set_same}
 use Rattle.cells.specs.declared.kinds.Kind.{Kind}
 use Rattle.cells.specs.declared.kinds.Port.{Port}
 use Rattle.cells.specs.declared.kinds.Port.TheVariants.{First, Second, Third}
@@ -18,8 +18,8 @@ use Rattle.machine.specs.Steps.{to, ends, then}
 use Rattle.stack.specs.declared.edits.Edit.{Edit}
 use Rattle.stack.specs.declared.edits.Edit.TheVariants.{Keep, Push, Pop, Replace, Split, Join}
 use Rattle.stack.specs.Edits.{edited, growth}
-use Rattle.stack.specs.Shelving.{shelf, with_shelf, shelf_room, ShelfAnswered}
-use Rattle.stack.proofs.Holds.{held_fits}
+use Rattle.stack.specs.Shelving.{shelf, shelf_room}
+use Rattle.stack.proofs.Holds.{held_fits, edited-length}
 use Rattle.stack.proofs.Shelved.{shelf-fits}
 use Rattle.token.specs.declared.memory.IterCell.{IterCell}
 use Rattle.token.specs.Table.{Stacks, Row, table, is_shelf, changed}
@@ -29,24 +29,11 @@ use Rattle.token.proofs.Tests.{both, and_true, eqb_same, eqb_yes, eqb_no, leb_ye
 use Rattle.token.proofs.Steps.{to_row, on_yes}
 use Rattle.token_machine.specs.declared.tokens.Token.{Token}
 use Rattle.token_machine.specs.declared.passages.Passage.{Passage}
-use Rattle.token_machine.specs.Passing.{shelves_after, passed, tops_of, LowTops, Passes, Found, WayOut, Roomy, Moved}
+use Rattle.token_machine.specs.Passing.{shelves_after, passed, tops_of, LowTops, Passes, Found, WayOut, Roomy}
 use Rattle.token_machine.specs.Tokens.{stacks_of, rooms_of}
-use Rattle.token_machine.proofs.Deciding.{low_data, low_iter, Agrees, TooLarge, Ended}
+use Rattle.token_machine.proofs.Deciding.{low_data, low_iter, high, Agrees, TooLarge, Ended}
 
 -- heights before and after an edit
-
-edit_most : {X : Type 0} (e : Edit X) (xs : List X) → length (edited e xs) ≤ length xs + growth e
-edit_most Keep xs = omega arith
-edit_most (Push x) xs = omega arith
-edit_most Pop [] = omega arith
-edit_most Pop (x ∷ xs) = omega arith
-edit_most (Replace x) [] = omega arith
-edit_most (Replace x) (y ∷ xs) = omega arith
-edit_most (Split u t) [] = omega arith
-edit_most (Split u t) (x ∷ xs) = omega arith
-edit_most (Join x) [] = omega arith
-edit_most (Join x) (y ∷ []) = omega arith
-edit_most (Join x) (y ∷ (z ∷ xs)) = omega arith
 
 edit_least : {X : Type 0} (e : Edit X) (xs : List X) (n : ℕ) → length xs ≤ n → length (edited e xs) ≤ n → length xs + growth e ≤ n
 edit_least Keep xs n h l = omega arith
@@ -96,10 +83,10 @@ to_within rs v s h = and_true _ _ (leb_yes _ _ h.letters) (and_true _ _ (leb_yes
 module _ (rs : Rooms) (v : ℕ) (m : Passage) (s : Stacks) (ok : (m.shelf ≡ Keep) ⊎ (is_shelf v s ≡ true)) where
   pub roomy_within : Roomy rs s v m → Within rs v (passed v m s)
   roomy_within h =
-      let a = edit_most m.letters s.letters in
-      let b = edit_most m.iters s.iters in
-      let c = edit_most m.datas s.datas in
-      let d = edit_most m.shelf (shelf v s.shelves) in
+      let a = edited-length m.letters s.letters in
+      let b = edited-length m.iters s.iters in
+      let c = edited-length m.datas s.datas in
+      let d = edited-length m.shelf (shelf v s.shelves) in
       let e = ap length (shelf-after v m.shelf s ok) in
       record { letters = omega (arith, h.letters); iters = omega (arith, h.iters); datas = omega (arith, h.datas); shelf = omega (arith, h.shelf) }
 
@@ -213,11 +200,7 @@ large_ends s k v a w h =
     let large : small (after s r) ≡ false = ap (λ n. small (changed r.change n s.stacks)) same ∙ h.large in
     ap (λ n. then n (leaves s)) (at_node_lem s k v r a h.found)
     ∙ on_yes _ reason.Full _ (and_true _ _ before size)
-    ∙ ap (λ t. asked t reason.Overflow (asked (linked s.nodes (exit_to s r) (link s.nodes (exit_to s r))) reason.Unlinked (to (gone s (exit_to s r) (after s r))))) (no_second (small s.stacks) (small (after s r)) large)
-  where
-    no_second : (a b : Bool) → b ≡ false → (a && b) ≡ false
-    no_second true b e = e
-    no_second false b e = refl
+    ∙ ap (λ t. asked t reason.Overflow (asked (linked s.nodes (exit_to s r) (link s.nodes (exit_to s r))) reason.Unlinked (to (gone s (exit_to s r) (after s r))))) (high (small s.stacks) (small (after s r)) large)
 
 pub ended : (s : State) (k : Kind) (v : ℕ) (w : Reason) → Arrives s k v → Within s.rooms v s.stacks → Ended k (place_of s.to) v s.stacks w → then (row_at s) (leaves s) ≡ ends w
 unfolding row_for
@@ -270,35 +253,6 @@ module _ (s : State) (v : ℕ) (m : Passage) (p : Passes s v m) (w : Within s.ro
       ∙ on_yes _ reason.Unlinked _ (ap (λ e. linked s.nodes e (link s.nodes e)) exit_is ∙ h)
       ∙ ap (λ e. to (gone s e (after s p.row))) exit_is
       ∙ ap (λ t. to (gone s (port_at (node_to s) m.exit) t)) p.change
-
--- the changes are made
-
-same-shelf : (j : ℕ) (ss : List (List IterCell)) → with_shelf j (shelf j ss) ss ≡ ss
-same-shelf zero ss = refl
-same-shelf (suc k) ss = set-get_or ss k []
-
-shelves-edited : (j : ℕ) (e : Edit IterCell) (ss : List (List IterCell)) → with_shelf j (edited e (shelf j ss)) ss ≡ shelves_after j e ss
-shelves-edited j Keep ss = same-shelf j ss
-shelves-edited j (Push c) ss = refl
-shelves-edited j Pop ss = refl
-shelves-edited j (Replace c) ss = refl
-shelves-edited j (Split c d) ss = refl
-shelves-edited j (Join c) ss = refl
-
-pub record Edited (s : State) (m : Passage) (t : State) : Type 0 where
-  pub nodes : t.nodes ≡ s.nodes
-  pub from : t.from ≡ s.from
-  pub to : t.to ≡ s.to
-  pub letters : t.stacks.letters ≡ edited m.letters s.stacks.letters
-  pub iters : t.stacks.iters ≡ edited m.iters s.stacks.iters
-  pub datas : t.stacks.datas ≡ edited m.datas s.stacks.datas
-  pub rooms : t.rooms ≡ s.rooms
-
-pub moved : (s : State) (j : ℕ) (m : Passage) (r : Result Unit Reason) (t : State) → Roomy s.rooms s.stacks j m → Edited s m t → ShelfAnswered s.stacks.shelves s.rooms.shelves j m.shelf r t.stacks.shelves → Moved s j m r t
-moved s j m (Ok u) t h e a =
-    let ss : t.stacks.shelves ≡ shelves_after j m.shelf s.stacks.shelves = a.1 ∙ shelves-edited j m.shelf s.stacks.shelves in
-    λ i. record { nodes = e.nodes i; from = e.from i; to = e.to i; stacks = record { letters = e.letters i; iters = e.iters i; datas = e.datas i; shelves = ss i }; rooms = e.rooms i }
-moved s j m (Err w) t h e a = absurd (omega (arith, h.shelf, a.1))
 
 -- the token after a passage, at the other end of its exit's link
 pub landed : (s t : State) (v : ℕ) (m : Passage) (e l : ℕ) → t ≡ record { nodes = s.nodes; from = s.from; to = s.to; stacks = passed v m s.stacks; rooms = s.rooms } → e ≡ port_at (node_to s) m.exit → l ≡ link s.nodes (port_at (node_to s) m.exit) → gone s (port_at (node_to s) m.exit) (passed v m s.stacks) ≡ record { nodes = t.nodes; from = e; to = l; stacks = t.stacks; rooms = t.rooms }

@@ -14,10 +14,11 @@ impl Token<'_> {
         self.to == 0 && self.is_bare()
     }
 
+    #[tactic(auto, using(crate::proofs::Empty::emptiness))]
     fn is_bare(&self) -> bool
         ensures { result ≡ is_bare (stacks_of self.now) }
     {
-        self.letters.is_empty() & self.iters.is_empty() & self.shelves.is_empty()
+        self.letters.is_empty() && self.iters.is_empty() && self.shelves.is_empty()
     }
 
     // The number that the token brings home: d holds it alone.

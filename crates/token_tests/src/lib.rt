@@ -10,30 +10,30 @@ mod tests {
 
     const FEW: usize = 8;
 
-    fn cell(kind: u8, value: u32, first: u32, second: u32, third: u32) -> Cell {
+    fn cell(kind: Kind, value: u32, links: [u32; 3]) -> Cell {
         Cell {
-            kind,
+            kind: u8::from(kind),
             value,
-            links: [first, second, third],
+            links,
         }
     }
 
     fn root(link: u32) -> Cell {
-        cell(Kind::Root.number(), 0, link, ABSENT, ABSENT)
+        cell(Kind::Root, 0, [link, ABSENT, ABSENT])
     }
 
     // iter 2 \x:N.S x 3
     fn twice_three() -> [Cell; 9] {
         [
             root(4),
-            cell(Kind::Iterator.number(), 0, 15, 0, 7),
-            cell(Kind::LeftCounter.number(), 0, 9, 5, 14),
-            cell(Kind::RightCounter.number(), 0, 6, 24, 13),
-            cell(Kind::Multiplexer.number(), 0, 18, 11, 8),
-            cell(Kind::Number.number(), 2, 3, ABSENT, ABSENT),
-            cell(Kind::Multiplexer.number(), 0, 12, 22, 21),
-            cell(Kind::Successor.number(), 0, 20, 19, ABSENT),
-            cell(Kind::Number.number(), 3, 10, ABSENT, ABSENT),
+            cell(Kind::Iterator, 0, [15, 0, 7]),
+            cell(Kind::LeftCounter, 0, [9, 5, 14]),
+            cell(Kind::RightCounter, 0, [6, 24, 13]),
+            cell(Kind::Multiplexer, 0, [18, 11, 8]),
+            cell(Kind::Number, 2, [3, ABSENT, ABSENT]),
+            cell(Kind::Multiplexer, 0, [12, 22, 21]),
+            cell(Kind::Successor, 0, [20, 19, ABSENT]),
+            cell(Kind::Number, 3, [10, ABSENT, ABSENT]),
         ]
     }
 
@@ -65,23 +65,18 @@ mod tests {
     fn successor_of(n: u32) -> [Cell; 3] {
         [
             root(4),
-            cell(Kind::Successor.number(), 0, 6, 0, ABSENT),
-            cell(Kind::Number.number(), n, 3, ABSENT, ABSENT),
+            cell(Kind::Successor, 0, [6, 0, ABSENT]),
+            cell(Kind::Number, n, [3, ABSENT, ABSENT]),
         ]
     }
 
     // An iterator that hands its number to one node, by its second port; that node's first port is linked to a third node or to itself.
     fn handed_to(node: Cell, last: Cell) -> [Cell; 4] {
-        [
-            root(3),
-            cell(Kind::Iterator.number(), 0, 0, ABSENT, 7),
-            node,
-            last,
-        ]
+        [root(3), cell(Kind::Iterator, 0, [0, ABSENT, 7]), node, last]
     }
 
     fn transfer(value: u32) -> Cell {
-        cell(Kind::Transfer.number(), value, 6, 5, ABSENT)
+        cell(Kind::Transfer, value, [6, 5, ABSENT])
     }
 
     #[test]
@@ -156,16 +151,16 @@ mod tests {
         let most = u32::MAX;
         let (granted, reason, _) = walked(successor_of(most), DataCell::Question, FEW);
         assert_eq!(rt; (granted, reason), (2, Some(Reason::Overflow)));
-        let (left, right) = (Kind::LeftCounter.number(), Kind::RightCounter.number());
+        let (left, right) = (Kind::LeftCounter, Kind::RightCounter);
         let up = handed_to(
-            cell(right, 0, 11, 5, ABSENT),
-            cell(left, 0, ABSENT, ABSENT, 6),
+            cell(right, 0, [11, 5, ABSENT]),
+            cell(left, 0, [ABSENT, ABSENT, 6]),
         );
         let (granted, reason, _) = walked(up, DataCell::Number(most), FEW);
         assert_eq!(rt; (granted, reason), (2, Some(Reason::Overflow)));
         let up = handed_to(
-            cell(left, 0, 11, 5, ABSENT),
-            cell(right, 0, ABSENT, ABSENT, 6),
+            cell(left, 0, [11, 5, ABSENT]),
+            cell(right, 0, [ABSENT, ABSENT, 6]),
         );
         let (granted, reason, _) = walked(up, DataCell::Number(most), FEW);
         assert_eq!(rt; (granted, reason), (2, Some(Reason::Overflow)));
@@ -208,7 +203,7 @@ mod tests {
         let (granted, reason, found) = walked([root(9)], DataCell::Number(7), FEW);
         assert_eq!(rt; (granted, reason), (0, Some(Reason::Home)));
         assert_eq!(rt; found, Ok(7));
-        let mirror = cell(Kind::Multiplexer.number(), 0, 3, 0, ABSENT);
+        let mirror = cell(Kind::Multiplexer, 0, [3, 0, ABSENT]);
         let (granted, reason, found) = walked([root(4), mirror], DataCell::Number(7), FEW);
         assert_eq!(rt; (granted, reason), (2, Some(Reason::Home)));
         assert_eq!(rt; found, Ok(7));
@@ -217,7 +212,14 @@ mod tests {
         let (granted, reason, _) = walked([root(5), mirror], DataCell::Number(7), FEW);
         assert_eq!(rt; (granted, reason), (0, Some(Reason::Unlinked)));
         let (granted, reason, _) = walked(
-            [root(3), cell(8, 0, 0, ABSENT, ABSENT)],
+            [
+                root(3),
+                Cell {
+                    kind: 8,
+                    value: 0,
+                    links: [0, ABSENT, ABSENT],
+                },
+            ],
             DataCell::Question,
             FEW,
         );
