@@ -104,6 +104,7 @@ fn wide(
 // Iterators one inside another, each with a name of its own.
 fn iterators(heap: Global, count: u8) -> Result<Vec<u8>, AllocError> {
     let mut text = Vec::new(heap);
+    // The number makes the name, and no index.
     for i in 0..count {
         let name = [b'a' + i / 16, b'a' + i % 16];
         text.extend_from_slice(b"iter 1 \\")?;

@@ -5,7 +5,7 @@ use cells::Cell;
 use std::alloc::{AllocError, Global};
 use token::{DataCell, IterCell, Letter};
 
-// The memory that a host lends to a session: cells for the network, and cells for the token's stacks.
+// The memory that a host lends to a session: cells for the network, and cells for the token's stacks. Each is of a kind of its own.
 #[derive(Drop)]
 pub struct Memory<'a> {
     pub cells: &'a mut [Cell],

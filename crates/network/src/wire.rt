@@ -32,6 +32,7 @@ fn cross(uses: &[usize], first: usize, starts: &mut [Option<usize>], cells: &mut
     requires { Crossable uses.now first starts.old (length cells.old) }
     ensures { Crossed uses.now first starts.old starts.new cells.old cells.new }
 {
+    // The number of the use makes that of its node.
     for (i, x) in uses.iter().enumerate() {
         let transfer = first + i;
         let outside = replace(&mut starts[*x], Some(Second.at(transfer)));

@@ -113,6 +113,7 @@ impl<'a, T: Copy> Shelves<'a, T> {
             height: self.heights[k] as usize,
         };
         let done = stack.edit(e);
+        // At most 64, by the stack's own fact.
         self.heights[k] = stack.height as u8;
         // the stack gives its cells back
         prove_eq!(cells.len(), DEPTH);

@@ -124,7 +124,8 @@ impl<'a, T: Copy> Stack<'a, T> {
         }
     }
 
-    // Does an edit, or refuses it and changes nothing where a cell is wanting.
+    // Does an edit, or refuses it and changes nothing where a cell is wanting. That the room stays is a promise of each
+    // call, and no fact about one value.
     pub fn edit(&mut self, e: Edit<T>) -> Result<(), Reason>
         ensures answer { Answered (held self.old) (room self.old) e result (held self.new) }
         ensures room { room self.new ≡ room self.old }
