@@ -115,7 +115,7 @@ impl<'a, T: Copy> Shelves<'a, T> {
         let done = stack.edit(e);
         // At most 64, by the stack's own fact.
         self.heights[k] = stack.height as u8;
-        // the stack gives its cells back
+        // the cells are looked at once more: only then does the check know what the stack left in them
         prove_eq!(cells.len(), DEPTH);
         done
     }
