@@ -83,30 +83,35 @@ impl<'a> Rest<'a> {
         self.with(bytes)
     }
 
+    // The first n bytes, and what is left after them.
+    fn cut(self, n: usize) -> (&'a [u8], Rest<'a>)
+        requires { n ≤ length self.bytes.now }
+        ensures front { result.0.now ≡ take n self.entry.bytes.now }
+        ensures rest { result.1.bytes.now ≡ drop n self.entry.bytes.now }
+        ensures end { result.1.end ≡ self.entry.end }
+    {
+        let (front, after) = self.bytes.split_at(n);
+        (front, self.with(after))
+    }
+
     // The longest run of a to z, and what is left after it.
     fn word(self) -> (&'a [u8], Rest<'a>)
         ensures front { result.0.now ≡ take (run letter self.entry.bytes.now) self.entry.bytes.now }
         ensures rest { result.1.bytes.now ≡ drop (run letter self.entry.bytes.now) self.entry.bytes.now }
         ensures end { result.1.end ≡ self.entry.end }
     {
-        let n = self
-            .bytes
-            .iter()
-            .take_while(|b| b.is_ascii_lowercase())
-            .count();
-        let (word, after) = self.bytes.split_at(n);
-        (word, self.with(after))
+        let letters = self.bytes.iter().take_while(|b| b.is_ascii_lowercase());
+        self.cut(letters.count())
     }
 
-    // The longest run of digits, and what is left after it.
+    // The longest run of digits, and what is left after it. A run by any test would need a clause on what the test computes: no plainer.
     fn digits(self) -> (&'a [u8], Rest<'a>)
         ensures front { result.0.now ≡ take (run digit self.entry.bytes.now) self.entry.bytes.now }
         ensures rest { result.1.bytes.now ≡ drop (run digit self.entry.bytes.now) self.entry.bytes.now }
         ensures end { result.1.end ≡ self.entry.end }
     {
-        let n = self.bytes.iter().take_while(|b| b.is_ascii_digit()).count();
-        let (digits, after) = self.bytes.split_at(n);
-        (digits, self.with(after))
+        let digits = self.bytes.iter().take_while(|b| b.is_ascii_digit());
+        self.cut(digits.count())
     }
 
     // Passes one sign, which has to be this mark.

@@ -12,5 +12,5 @@ use Rattle.syntax.proofs.names.Rest.word.Goals as goal
 pub returns : goal.returns
 returns c =
     let s = c.args.self.bytes.now in
-    let n : c.count-n.result ≡ run letter s = count_from_yields_List c.take_while.result _ c.count-n.ensures.ran (YieldsList-from_take_while _ letter (YieldsList-from_slice s cc) c.take_while.ensures.closure c.take_while.ensures.done (λ x b q k. grind (arith, nat_tests))) ∙ length-prefix_len letter s ∙ run_is letter s in
+    let n : c.count.result ≡ run letter s = count_from_yields_List c.take_while-letters.result _ c.count.ensures.ran (YieldsList-from_take_while _ letter (YieldsList-from_slice s cc) c.take_while-letters.ensures.closure c.take_while-letters.ensures.done (λ x b q k. grind (arith, nat_tests))) ∙ length-prefix_len letter s ∙ run_is letter s in
     record { front = cc; rest = cc; end = cc }
