@@ -81,7 +81,8 @@ fn act(rt: &HostRuntime, walk: &mut Walk<Addition>, calls: &[Call<()>]) -> io::R
     Ok(())
 }
 
-// In words of this program's own, which are not those of `walk`; a grant is a tuple, so it is no `Display`.
+// Some words here are others than in `walk`, which writes to a writer and not to the runtime: what is alike in both is too little for a
+// function of a library.
 fn show(rt: &HostRuntime, call: &Call<()>, answer: &Answer<(u32, u32)>) -> io::Result<()> {
     match call {
         Call::Forward(k) => print!(rt; "forward {k}: ")?,

@@ -31,7 +31,7 @@ const BLANK: Cell = Cell {
     links: [0; 3],
 };
 
-// The memory that the programs lend: 2,048 nodes, 256 letters, 256 iterator, 4,096 shelf and 1,024 data cells.
+// The memory that the programs lend, a vector for each kind of cell: 2,048 nodes, 256 letters, 256 iterator, 4,096 shelf and 1,024 data cells.
 #[derive(Drop)]
 pub struct Reserve {
     cells: Vec<Cell>,

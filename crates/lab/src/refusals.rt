@@ -11,7 +11,7 @@ pub struct Refused<'a> {
     pub memory: Memory<'a>,
 }
 
-// `Text` and not `Display`, as that trait tells.
+// For a host that shows it in lent memory; where there is a writer, `Display` of the refusal says the same.
 impl<'a> Text for Refused<'a> {
     ghost text = { λ r. refusal_text r.refusal };
 

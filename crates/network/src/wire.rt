@@ -17,7 +17,7 @@ use syntax::program::Shape;
 const PLACES: usize = 16_384;
 
 // What wiring works in: for each place in a text the port at which the variable bound there starts, where it is in force; and the free uses
-// of a part. The parts and the cells stay parameters: as fields here, each method would have to promise that it keeps the parts and the
+// of a part, all by number: no heap is asked for while a network is built. The parts and the cells stay parameters: as fields here, each method would have to promise that it keeps the parts and the
 // reference to the cells, which is no plainer.
 #[derive(Drop)]
 pub(crate) struct Wiring {

@@ -12,7 +12,7 @@ use token::DataCell;
 // The most bytes that are read.
 const MOST: u64 = 16_777_216;
 
-// Writes how the program of one text ends, or why the text is refused.
+// Writes how the program of one text ends, or why the text is refused. The line is in lent memory, so it is bytes and no `Display`.
 fn tell<W: Write>(
     out: &mut W,
     builder: &mut Builder,
@@ -22,8 +22,9 @@ fn tell<W: Write>(
 ) -> anyhow::Result<()> {
     match open(builder, text, reserve.lend(), DataCell::Question) {
         Ok(token) => {
-            let n = show_outcome(&mut Walk::new(token), line)
-                .map_err(|_| anyhow!("a line is longer than the buffer"))?;
+            let n = show_outcome(&mut Walk::new(token), line).map_err(|_| anyhow!(
+                "a line is longer than the buffer"
+            ))?;
             out.write_all(&line[0..n])?;
         }
         Err(refused) => writeln!(out, "{}", refused.refusal)?,

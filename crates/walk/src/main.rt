@@ -14,7 +14,7 @@ use std::io::{BufWriter, Read, Write};
 use std::{env, io};
 use token_machine::{Query, Reply, Token};
 
-// The answers are written in words of this program's own; a grant is a tuple and a line is bytes, so neither is a `Display`.
+// Some words here are others than in `addition`; a grant is a tuple and a line is bytes, so neither has a `Display`.
 
 fn write_call<W: Write>(out: &mut W, call: &Call<Query>) -> io::Result<()> {
     match call {
