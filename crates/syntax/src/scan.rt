@@ -148,7 +148,8 @@ impl<'a> Rest<'a> {
         Ok(((first, second), rest))
     }
 
-    // Which term begins with the word that stands at the front.
+    // Which term begins with the word that stands at the front. What this and the next two promise is one word, `Opens`: it is no fact about
+    // one value.
     fn first_word(self) -> Read<'a, First<'a>>
         requires starts { 1 ≤ length self.bytes.now }
         requires letter { letter (slice_index self.bytes.now 0) ≡ true }
