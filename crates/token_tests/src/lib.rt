@@ -37,7 +37,8 @@ mod tests {
         ]
     }
 
-    // Opens a token with the first data cell, goes forward, and says how far it came, with its number.
+    // Opens a token with the first data cell, goes forward, and says how far it came, with its number. The lent arrays stand in each test
+    // that opens one: a function that lends them out of a struct gets no proof.
     fn walked<const N: usize>(
         cells: [Cell; N],
         first: DataCell,
