@@ -2,19 +2,13 @@ use Rattle.std.proofs.Common.{length, sym, refl, ap, ◌∙◌, append-nil, arit
 use Rattle.calculus.specs.Types.{◌⊗◌}
 use Rattle.syntax.specs.declared.program.Shape.TheVariants.{Variable}
 use Rattle.syntax.specs.declared.program.Subterm.{Subterm}
-use Rattle.language.proofs.Walk.{inside_of, asks_type, asks_room, failed, stopped, judged}
+use Rattle.language.proofs.Walk.{inside_of, asks_type, asks_room, failed, judged}
 use Rattle.language.proofs.Steps.{both_bound, met, var_done, num_done, succ_ready, succ_stop, succ_asks, succ_done, application, pair_of, product_cell, two_ready, two_stop, two_next, two_stop', two_asks, two_done, iter_ready, iter_stop, iter_next, iter_stop', iter_next', iter_stop'', iter_asks, iter_done, lam_less, lam_space, lam_ready, lam_stop, lam_room, lam_done, let_less, let_ready, let_stop, let_asks, let_stop', let_space, let_next, let_stop'', let_done}
 use Rattle.language.proofs.checker.Checker.+check_infer.Goals as goal
 
 -- the default that a read in the code has
 abbrev unread : Subterm
 unread = record { place = 0; shape = Variable 0 }
-
-pub check-infer-requires : goal.check-infer-requires
-check-infer-requires t c = (omega arith, c.requires)
-
-pub check-returns-in_err-cell : goal.check-returns-in_err-cell
-check-returns-in_err-cell t c = stopped c.from_residual.ensures.1 c.in_err-cell.ensures
 
 pub check-offset_bounds-subs-i : goal.check-offset_bounds-subs-i
 check-offset_bounds-subs-i t c = let h = inside_of c.requires in search rules

@@ -1,27 +1,5 @@
 use Rattle.std.proofs.Common.{refl}
-use Rattle.std.proofs.lemmas.Result.{err_from_is_err_and}
 use Rattle.syntax.proofs.names.Rest.let_head.Goals as goal
-
-pub returns-in_err-rest-3 : goal.returns-in_err-rest-3
-returns-in_err-rest-3 c =
-    let a = c.in_ok-rest.ensures in
-    let x = rw a.1 at c.in_ok-first.ensures in
-    let b = rw x.3 at c.in_ok-rest-2.ensures in
-    let y = rw b.1 at c.in_ok-second.ensures in
-    let e = rw y.3 at c.in_err-rest-3.ensures in
-    let p = err_from_is_err_and c.from_residual-in_err-rest-3.result c.from_residual-in_err-rest-3.ensures.1 in
-    rw (p.1, p.2, a.0, x.1, b.0, y.1, e) refl
-
-pub returns-in_err-rest-4 : goal.returns-in_err-rest-4
-returns-in_err-rest-4 c =
-    let a = c.in_ok-rest.ensures in
-    let x = rw a.1 at c.in_ok-first.ensures in
-    let b = rw x.3 at c.in_ok-rest-2.ensures in
-    let y = rw b.1 at c.in_ok-second.ensures in
-    let d = rw y.3 at c.in_ok-rest-3.ensures in
-    let e = rw d.1 at c.in_err-rest-4.ensures in
-    let p = err_from_is_err_and c.from_residual-in_err-rest-4.result c.from_residual-in_err-rest-4.ensures.1 in
-    rw (p.1, p.2, a.0, x.1, b.0, y.1, d.0, e) refl
 
 pub returns : goal.returns
 returns c =
