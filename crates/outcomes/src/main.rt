@@ -22,8 +22,9 @@ fn tell<W: Write>(
 ) -> anyhow::Result<()> {
     match open(builder, text, reserve.lend(), DataCell::Question) {
         Ok(token) => {
-            let n = show_outcome(&mut Walk::new(token), line)
-                .map_err(|_| anyhow!("a line is longer than the buffer"))?;
+            let n = show_outcome(&mut Walk::new(token), line).map_err(|_| anyhow!(
+                "a line is longer than the buffer"
+            ))?;
             out.write_all(&line[0..n])?;
         }
         Err(refused) => writeln!(out, "{}", refused.refusal)?,
