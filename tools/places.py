@@ -74,10 +74,10 @@ for fn in fns:
 section("2", "groups of functions of one shape", [" ~ ".join(f"{g.place} {g.name}" for g in group) for group in alike.values() if len(group) > 1])
 
 # 3
-section("3", "loops that count by hand, or go over a range of numbers", matching(r"^\s*while |^\s*for \w+ in [^{]*\.\.|\.enumerate\(\)|^\s*\w+ [+-]= 1;"))
+section("3", "loops that count: `while` with a condition, `for` over numbers that are used, `enumerate`, a count kept by hand", matching(r"^\s*while (?!let\b)|^\s*for (?!_\b)\w+ in (?!&)[^{]*\.\.|\.enumerate\(\)|^\s*\w+ [+-]= 1;"))
 
 # 4
-section("4", "equality, order, copying, conversion and printing by hand", matching(r"fn (of|number|same|before|sooner|copy|turn)\b|fn \w+_(line|text)\(|fn (write|show|tell)_?\w*[(<](?!&self, writer)|impl(<.*>)? Text for|\bas u(8|32|64)\b"))
+section("4", "equality, order, copying, conversion and printing by hand", matching(r"fn (of|same|before|sooner|copy)\b|fn number\((self\)|\w+: Fault)|fn \w+_line\(heap|impl(<.*>)? Text for|fn write_\w+\(.*writer: |fn (write|show|tell)\w*(<W|\(rt: )|\bas u(8|32|64)\b"))
 
 # 5
 held = collections.defaultdict(set)
@@ -110,7 +110,7 @@ for f in files:
 section("6", "types that hold a buffer beside a number, several buffers, or parts by their numbers", tables)
 
 # 7
-section("7", "switches on which step to run, tables of cases, functions handed over", matching(r"match (case|heading|direction|self\.direction|side|number)\b|\bfn\(|Fn(Mut|Once)?\(|\bdyn\b"))
+section("7", "switches on which step to run, tables of cases, functions handed over", matching(r"match (case|heading|direction|self\.direction)\b|\bfn\(|Fn(Mut|Once)?\(|\bdyn\b"))
 
 # 8
 for name, pattern in (("answers of functions", "crates/*/proofs/**/Answers.antt"), ("invariants of loops", "crates/*/proofs/**/Invariants.antt"), ("files of lemmas", "crates/*/proofs/*.antt")):

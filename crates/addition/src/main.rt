@@ -19,6 +19,8 @@ fn main(rt: HostRuntime) -> io::Result<()> {
     whole(&rt)
 }
 
+// The runtime and the walk are handed on to each part of the program.
+
 // Forward until the machine is home, and back until it is home the other way.
 fn step_by_step(rt: &HostRuntime, walk: &mut Walk<Addition>) -> io::Result<()> {
     for _ in 0..4 {
@@ -79,6 +81,8 @@ fn act(rt: &HostRuntime, walk: &mut Walk<Addition>, calls: &[Call<()>]) -> io::R
     Ok(())
 }
 
+// Some words here are others than in `walk`, which writes to a writer and not to the runtime: what is alike in both is too little for a
+// function of a library.
 fn show(rt: &HostRuntime, call: &Call<()>, answer: &Answer<(u32, u32)>) -> io::Result<()> {
     match call {
         Call::Forward(k) => print!(rt; "forward {k}: ")?,

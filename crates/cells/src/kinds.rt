@@ -42,6 +42,7 @@ impl From<Kind> for u8 {
     ghost from_gives = { λ kind number. number ≡ kind_number kind };
 
     fn from(kind: Kind) -> u8 {
+        // `as` is how an enum gives its number.
         kind as u8
     }
 }
@@ -55,7 +56,7 @@ pub enum Port {
 }
 
 impl Port {
-    // Which of its node's ports a port number names.
+    // Which of its node's ports a port number names. Not `From`: a port is not all that the number says.
     pub fn of(port: u32) -> Port
         ensures { result ≡ place_of port }
     {

@@ -6,6 +6,8 @@ use crate::kinds::Cell;
 // The link that stands for none: a cell in the host's memory has a number there, so it is no `Option`.
 pub const ABSENT: u32 = 4_294_967_295;
 
+// A slice and a number in it, as `get` takes them: a struct made of both for each call would be no plainer.
+
 // Whether the port lies in one of the cells.
 pub fn is_inside(cells: &[Cell], port: u32) -> bool
     ensures { result ≡ inside (nodes_of cells.now) port }

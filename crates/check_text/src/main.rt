@@ -11,7 +11,7 @@ use language::workspace::Workspace;
 use std::alloc::{AllocError, Global};
 use syntax::refusal::Refusal;
 
-// The counts of a text's program.
+// The counts of a text's program. The workspace serves many texts, so the two are no struct.
 fn examine(workspace: &mut Workspace, text: &[u8]) -> Result<Facts, Refusal>
     ensures { Examined text.now result }
 {

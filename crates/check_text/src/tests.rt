@@ -104,6 +104,7 @@ fn wide(
 // Iterators one inside another, each with a name of its own.
 fn iterators(heap: Global, count: u8) -> Result<Vec<u8>, AllocError> {
     let mut text = Vec::new(heap);
+    // The number makes the name, and no index.
     for i in 0..count {
         let name = [b'a' + i / 16, b'a' + i % 16];
         text.extend_from_slice(b"iter 1 \\")?;
@@ -205,22 +206,18 @@ fn limits(rt: HostRuntime) -> Result<(), Fail> {
 #[test]
 fn counts(rt: HostRuntime) -> Result<(), Fail> {
     let mut workspace = Workspace::new(rt.alloc())?;
-    match accept(b"let <x,y> = <\\z:N.z,7> in (x y)", &mut workspace) {
-        Ok(program) => {
-            assert_eq!(rt;
-                program.facts,
-                Facts {
-                    subterms: 8,
-                    iterators: 0,
-                    successors: 0,
-                    height: 2,
-                    weight: 11,
-                }
-            );
-            Ok(())
-        },
-        Err(_) => Err(Fail::new("refused")),
-    }
+    let program = accept(b"let <x,y> = <\\z:N.z,7> in (x y)", &mut workspace)?;
+    assert_eq!(rt;
+        program.facts,
+        Facts {
+            subterms: 8,
+            iterators: 0,
+            successors: 0,
+            height: 2,
+            weight: 11,
+        }
+    );
+    Ok(())
 }
 
 // Texts, with the lines that answer them.

@@ -5,13 +5,9 @@ use std::test::Fail;
 // Of a text of so many bytes, so many are read.
 fn reads(rt: &(impl Abort + AllocGlobal), bytes: usize, read: usize) -> Result<(), Fail> {
     let text = Vec::from_elem(rt.alloc(), b'3', bytes)?;
-    match read_text(rt.alloc(), text.as_slice()) {
-        Ok(text) => {
-            assert_eq!(rt; text.len(), read);
-            Ok(())
-        },
-        Err(_) => Err(Fail::new("not read")),
-    }
+    let text = read_text(rt.alloc(), text.as_slice())?;
+    assert_eq!(rt; text.len(), read);
+    Ok(())
 }
 
 #[test]
@@ -25,23 +21,15 @@ fn lengths(rt: HostRuntime) -> Result<(), Fail> {
 #[test]
 fn bytes(rt: HostRuntime) -> Result<(), Fail> {
     let input: &[u8] = b"S 3\n";
-    match read_text(rt.alloc(), input) {
-        Ok(text) => {
-            assert!(rt; text.as_slice() == b"S 3\n".as_slice());
-            Ok(())
-        },
-        Err(_) => Err(Fail::new("not read")),
-    }
+    let text = read_text(rt.alloc(), input)?;
+    assert!(rt; text.as_slice() == b"S 3\n".as_slice());
+    Ok(())
 }
 
 #[test]
 fn up_to_a_limit(rt: HostRuntime) -> Result<(), Fail> {
     let input: &[u8] = b"S 3\n";
-    match read_up_to(rt.alloc(), input, 2) {
-        Ok(bytes) => {
-            assert!(rt; bytes.as_slice() == b"S ".as_slice());
-            Ok(())
-        },
-        Err(_) => Err(Fail::new("not read")),
-    }
+    let bytes = read_up_to(rt.alloc(), input, 2)?;
+    assert!(rt; bytes.as_slice() == b"S ".as_slice());
+    Ok(())
 }

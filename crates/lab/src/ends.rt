@@ -13,6 +13,7 @@ pub struct End {
     pub number: Option<u32>,
 }
 
+// `Text` and not `Display`, as that trait tells.
 impl Text for End {
     ghost text = { end_text };
 

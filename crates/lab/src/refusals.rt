@@ -11,6 +11,7 @@ pub struct Refused<'a> {
     pub memory: Memory<'a>,
 }
 
+// For a host that shows it in lent memory; where there is a writer, `Display` of the refusal says the same.
 impl<'a> Text for Refused<'a> {
     ghost text = { λ r. refusal_text r.refusal };
 
@@ -18,6 +19,7 @@ impl<'a> Text for Refused<'a> {
         writer.bytes(b"refused=");
         writer.number(u64::from(u8::from(self.refusal.fault)));
         writer.bytes(b" place=");
+        // No `From` widens a `usize`.
         writer.number(self.refusal.place as u64);
         writer.bytes(b"\n");
     }

@@ -15,6 +15,7 @@ const TOP: u32 = 1_000;
 #[derive(Clone, Copy)]
 pub struct Ladder {
     height: u32,
+    // A flag by itself: no value hangs on it, so an enum would be no plainer.
     upward: bool,
     creaks: u32,
     ghost short: { height ≤ 1000 },

@@ -13,6 +13,7 @@ pub(crate) struct Hypothesis {
     cell: usize,
 }
 
+// A list, searched from its end and no map: no heap is asked for while a text is checked.
 #[derive(Drop)]
 pub(crate) struct Context {
     hypotheses: Vec<Hypothesis>,

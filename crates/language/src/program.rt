@@ -3,7 +3,7 @@ use crate::counts::Facts;
 use crate::typing::Typing;
 use syntax::program::{Subterm, TypeCell};
 
-// Its sub-terms, the last of them the whole, its types' cells, the type of each sub-term in the order they were checked in, and its counts.
+// Lists of different things, each lent as it stands in memory: its sub-terms, the last of them the whole, its types' cells, the type of each sub-term in the order they were checked in, and its counts.
 #[derive(Clone, Copy)]
 pub struct Program<'a> {
     pub subterms: &'a [Subterm],

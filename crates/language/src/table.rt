@@ -11,6 +11,7 @@ use syntax::program::TypeCell;
 // Cells for the annotations of a text, for one new type of each sub-term, and for N.
 const TYPE_ROOM: usize = 4097;
 
+// That a number names a cell is true of a table only, so it is asked beside the number and stands in no type.
 // Two vectors, and not one of pairs, since a checked program lends its cells alone, as one slice that stands in memory.
 #[derive(Drop)]
 pub(crate) struct TypeTable {

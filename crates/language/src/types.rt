@@ -22,6 +22,7 @@ fn join(a: Measure, b: Measure) -> Measure
 }
 
 // A cell that is not in the table is measured as N.
+// Over a slice, as `measured` asks it while a cell is put into the table.
 pub(crate) fn measure_of(measures: &[Measure], i: usize) -> Measure
     ensures { result ≡ slice_index_or measures.now i number }
 {

@@ -1,4 +1,3 @@
-pub mod Passing
 pub mod Ways
 pub mod Retracing
 pub mod Going

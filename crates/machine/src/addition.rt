@@ -30,6 +30,7 @@ impl Machine for Addition {
 
     ghost lawful = { addition_laws };
 
+    // Each way is one call: a closure in its place would be no plainer.
     fn step(&mut self) -> Result<(), Reason> {
         match self.direction {
             Direction::Out => pass_one(&mut self.a, &mut self.b),
@@ -37,6 +38,7 @@ impl Machine for Addition {
         }
     }
 
+    // The other of two values: there is no library's method for that.
     fn turn(&mut self) {
         self.direction = match self.direction {
             Direction::Out => Direction::Home,

@@ -31,6 +31,7 @@ impl From<Reason> for u8 {
     ghost from_gives = { λ reason number. number ≡ number_of reason };
 
     fn from(reason: Reason) -> u8 {
+        // `as` is how an enum gives its number.
         reason as u8
     }
 }

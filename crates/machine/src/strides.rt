@@ -54,6 +54,7 @@ impl<M: Machine> Machine for Stride<M> {
 
     ghost lawful = { stride_laws M.Machine.lawful };
 
+    // The loop counts steps, and goes through no slice.
     fn step(&mut self) -> Result<(), Reason> {
         for done in 0..self.k {
             step_or_retrace(&mut self.below, done)?;
@@ -77,7 +78,7 @@ fn step_or_retrace<M: Machine>(m: &mut M, done: u32) -> Result<(), Reason>
     outcome
 }
 
-// Takes back the last n steps: turned, the machine goes the same way back.
+// Takes back the last n steps: turned, the machine goes the same way back. The loop counts steps, and goes through no slice.
 fn retrace<M: Machine>(m: &mut M, n: u32)
     ensures { (x : M.State) → go M.next n x ≡ to (M.state m.old) → M.state m.new ≡ x }
 {

@@ -32,6 +32,7 @@ impl Sum {
     pub fn moved(self, heading: Heading) -> Option<Sum>
         ensures { MatchOption result (room heading self.value ≡ false) (λ s. (room heading self.value ≡ true) × (s.value ≡ moved heading self.value)) }
     {
+        // Two ways of an enum, told apart where they differ: no table of steps.
         match heading {
             Heading::Up if self.value < HIGHEST => Some(Sum {
                 value: self.value + 1,
@@ -56,6 +57,7 @@ impl Sum {
     pub fn distance(self, target: Sum) -> u32
         ensures { result ≡ unsigned_abs (target.value -ℤ self.value) }
     {
+        // At most 4,000,000,000, by the limits: `try_from` would be an error that never comes.
         target.value.abs_diff(self.value) as u32
     }
 }

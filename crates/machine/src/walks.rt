@@ -94,6 +94,7 @@ impl<M: Machine> Walk<M> {
         let Probe { sum: _ } = probe;
     }
 
+    // The heading and the number of steps go from here to the loop; a struct of the two would be taken apart again.
     fn ask(&mut self, heading: Heading, k: u32) -> Grant
         ensures { Asked heading M.next M.turned k (stands M.state self.old) (stands M.state self.new) result }
     {
@@ -103,7 +104,7 @@ impl<M: Machine> Walk<M> {
         self.travel(heading, k)
     }
 
-    // k steps up, or down by the turned machine.
+    // k steps up, or down by the turned machine: two ways of an enum, and no table of steps.
     fn travel(&mut self, heading: Heading, k: u32) -> Grant
         ensures { Goes heading M.next M.turned k (stands M.state self.old) (stands M.state self.new) result }
     {
@@ -118,7 +119,7 @@ impl<M: Machine> Walk<M> {
         }
     }
 
-    // The one loop of forward, back and bring-back.
+    // The one loop of forward, back and bring-back. It counts steps, and goes through no slice.
     fn take_steps(&mut self, heading: Heading, k: u32) -> Grant
         ensures { Granted (may heading M.next) k (stands M.state self.old) (stands M.state self.new) result }
     {

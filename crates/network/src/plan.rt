@@ -12,6 +12,7 @@ const NO_PART: Part = Part {
     count: Count { nodes: 0, uses: 0 },
 };
 
+// A slice and a number, as `get` takes them.
 pub(crate) fn part_at(parts: &[Part], i: usize) -> Part
     ensures { slice_index_or parts.now i no_part ≡ result }
 {

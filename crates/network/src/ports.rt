@@ -9,6 +9,7 @@ fn link(cells: &mut [Cell], p: usize, q: usize)
     requires { (p < 3 * length cells.old) × (q ≤ 4294967295) }
     ensures { cells.new ≡ link_cell cells.old p q }
 {
+    // A cell's link has 32 bits, as q is asked to have.
     cells[p / 3].links[p % 3] = q as u32;
 }
 

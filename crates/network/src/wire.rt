@@ -17,7 +17,7 @@ use syntax::program::Shape;
 const PLACES: usize = 16_384;
 
 // What wiring works in: for each place in a text the port at which the variable bound there starts, where it is in force; and the free uses
-// of a part. The parts and the cells stay parameters: as fields here, each method would have to promise that it keeps the parts and the
+// of a part, all by number: no heap is asked for while a network is built. The parts and the cells stay parameters: as fields here, each method would have to promise that it keeps the parts and the
 // reference to the cells, which is no plainer.
 #[derive(Drop)]
 pub(crate) struct Wiring {
@@ -32,6 +32,7 @@ fn cross(uses: &[usize], first: usize, starts: &mut [Option<usize>], cells: &mut
     requires { Crossable uses.now first starts.old (length cells.old) }
     ensures { Crossed uses.now first starts.old starts.new cells.old cells.new }
 {
+    // The number of the use makes that of its node.
     for (i, x) in uses.iter().enumerate() {
         let transfer = first + i;
         let outside = replace(&mut starts[*x], Some(Second.at(transfer)));

@@ -12,6 +12,7 @@ const DUST: Cell = Cell {
     links: [9, 9, 9],
 };
 
+// The kinds stand as the numbers that cells hold, so that these are tested too.
 fn node(kind: u8, value: u32, links: [u32; 3]) -> Cell {
     Cell { kind, value, links }
 }

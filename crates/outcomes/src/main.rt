@@ -12,7 +12,7 @@ use token::DataCell;
 // The most bytes that are read.
 const MOST: u64 = 16_777_216;
 
-// Writes how the program of one text ends, or why the text is refused.
+// Writes how the program of one text ends, or why the text is refused. The line is in lent memory, so it is bytes and no `Display`.
 fn tell<W: Write>(
     out: &mut W,
     builder: &mut Builder,

@@ -28,9 +28,6 @@ module _ {Q X : Type 0} (fits : Q → X → Type 0) where
       let front : take (i + 1) cs ≡ take i cs ++ (c ∷ []) = take_more cs i c lt ∙ ap (λ z. take i cs ++ (z ∷ [])) (sym e) in
       rw (front, ey) (ready_more (take i cs) xs c x a r)
 
-  pub rooms_all : (cs : List (Call Q)) (i : ℕ) (xs : List (Option X)) → length cs ≤ i → AllReady fits (take i cs) xs → AllReady fits cs xs
-  rooms_all cs i xs le a = rw (take_all i cs le) at a
-
   -- each turn has a call and the room for it
   pub turn_ready : (cs : List (Call Q)) (xs : List (Option X)) (i : ℕ) (c : Call Q) (x : Option X) → AllReady fits cs xs → (i < length (zip cs xs)) × ((c, x) ≡ get_or (zip cs xs) i (c, x)) → (i < length cs) × (c ≡ get_or cs i c) × Ready fits c x
   turn_ready [] xs i c x a h = absurd (omega (arith, h.0))

@@ -94,7 +94,8 @@ impl<'a, T: Copy> Shelves<'a, T> {
         }
     }
 
-    // Does an edit of shelf j, or refuses it and changes nothing where a cell is wanting.
+    // Does an edit of shelf j, or refuses it and changes nothing where a cell is wanting. That as many shelves are complete as before is a
+    // promise of each call, and no fact about one value.
     pub fn edit(&mut self, j: u32, e: Edit<T>) -> Result<(), Reason>
         ensures answer { ShelfAnswered (shelves self.old) (complete self.old) j e result (shelves self.new) }
         ensures complete { complete self.new ≡ complete self.old }
@@ -113,8 +114,9 @@ impl<'a, T: Copy> Shelves<'a, T> {
             height: self.heights[k] as usize,
         };
         let done = stack.edit(e);
+        // At most 64, by the stack's own fact.
         self.heights[k] = stack.height as u8;
-        // the stack gives its cells back
+        // the cells are looked at once more: only then does the check know what the stack left in them
         prove_eq!(cells.len(), DEPTH);
         done
     }

@@ -124,23 +124,23 @@ impl<'a, T: Copy> Stack<'a, T> {
         }
     }
 
-    // Does an edit, or refuses it and changes nothing where a cell is wanting.
+    // Does an edit, or refuses it and changes nothing where a cell is wanting. That the room stays is a promise of each
+    // call, and no fact about one value.
     pub fn edit(&mut self, e: Edit<T>) -> Result<(), Reason>
         ensures answer { Answered (held self.old) (room self.old) e result (held self.new) }
         ensures room { room self.new ≡ room self.old }
         ensures cells { self.new.cells.ghost_name ≡ self.old.cells.ghost_name }
     {
-        // a stack that is kept is not looked at
-        if let Edit::Keep = e {
-            return Ok(());
-        }
-        self.room_for(e.growth())?;
         match e {
             Edit::Keep => {}
-            Edit::Push(x) => self.put(x),
+            Edit::Push(x) => {
+                self.room_for(1)?;
+                self.put(x);
+            }
             Edit::Pop => self.drop_top(),
             Edit::Replace(x) => self.replace(x),
             Edit::Split(under, top) => {
+                self.room_for(1)?;
                 self.replace(under);
                 self.put(top);
             }

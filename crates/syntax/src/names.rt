@@ -18,6 +18,7 @@ pub(crate) type Read<'a, T> = Result<(T, Rest<'a>), Refusal>;
 pub(crate) struct Binder<'a> {
     pub(crate) place: usize,
     pub(crate) name: &'a [u8],
+    ghost short: { length name.now ≤ 16 },
 }
 
 // Where a sub-term begins: the place of its first byte, inside `depth` others.

@@ -1,4 +1,5 @@
-// A type as memory holds it: its parts are cells with smaller numbers.
+// A type as memory holds it: its parts are cells with smaller numbers, here and in a sub-term by number and in no box, since no heap is
+// asked for while a text is read.
 #[derive(Clone, Copy, PartialEq, Eq, Debug)]
 pub enum TypeCell {
     N,

@@ -26,6 +26,7 @@ impl From<Fault> for u8 {
     ghost from_gives = { λ fault n. n ≡ number fault };
 
     fn from(fault: Fault) -> u8 {
+        // `as` is how an enum gives its number.
         fault as u8
     }
 }

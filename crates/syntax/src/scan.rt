@@ -1,8 +1,8 @@
 // Signs at the front of what is left of a text.
 ghost use Rattle.std.specs.Prelude.{◌≡◌, ℕ, ◌-◌, ◌<◌, ◌≤◌, true, false, length, take, drop, slice_index};
-ghost use Rattle.syntax.specs.Signs.{blank, letter, digit, is_name};
+ghost use Rattle.syntax.specs.Signs.{blank, letter, digit, within, is_name};
 ghost use Rattle.syntax.specs.Parse.{expect as expected, is_mark, is_word_in, binder as bindings, let_head as heads};
-ghost use Rattle.syntax.specs.Steps.{skipped, run, Gives, Passes, Counted, IsBinder, AreBinders, Opens, signs_in, place_of};
+ghost use Rattle.syntax.specs.Steps.{skipped, run as front, Gives, Passes, Counted, IsBinder, AreBinders, Opens, signs_in, place_of};
 
 use crate::names::{Binder, First, Read, Rest};
 use crate::refusal::{Fault, Refusal};
@@ -83,30 +83,19 @@ impl<'a> Rest<'a> {
         self.with(bytes)
     }
 
-    // The longest run of a to z, and what is left after it.
-    fn word(self) -> (&'a [u8], Rest<'a>)
-        ensures front { result.0.now ≡ take (run letter self.entry.bytes.now) self.entry.bytes.now }
-        ensures rest { result.1.bytes.now ≡ drop (run letter self.entry.bytes.now) self.entry.bytes.now }
+    // The longest run of bytes from `low` to `high`, and what is left after it.
+    fn run(self, low: u8, high: u8) -> (&'a [u8], Rest<'a>)
+        ensures front { result.0.now ≡ take (front (within low high) self.entry.bytes.now) self.entry.bytes.now }
+        ensures rest { result.1.bytes.now ≡ drop (front (within low high) self.entry.bytes.now) self.entry.bytes.now }
         ensures end { result.1.end ≡ self.entry.end }
     {
         let n = self
             .bytes
             .iter()
-            .take_while(|b| b.is_ascii_lowercase())
+            .take_while(|b| low <= **b && **b <= high)
             .count();
-        let (word, after) = self.bytes.split_at(n);
-        (word, self.with(after))
-    }
-
-    // The longest run of digits, and what is left after it.
-    fn digits(self) -> (&'a [u8], Rest<'a>)
-        ensures front { result.0.now ≡ take (run digit self.entry.bytes.now) self.entry.bytes.now }
-        ensures rest { result.1.bytes.now ≡ drop (run digit self.entry.bytes.now) self.entry.bytes.now }
-        ensures end { result.1.end ≡ self.entry.end }
-    {
-        let n = self.bytes.iter().take_while(|b| b.is_ascii_digit()).count();
-        let (digits, after) = self.bytes.split_at(n);
-        (digits, self.with(after))
+        let (run, after) = self.bytes.split_at(n);
+        (run, self.with(after))
     }
 
     // Passes one sign, which has to be this mark.
@@ -126,7 +115,7 @@ impl<'a> Rest<'a> {
         ensures { Passes self.entry.end (expected self.entry.end is_word_in (signs_in self.entry)) result }
     {
         let rest = self.skip();
-        let (word, after) = rest.word();
+        let (word, after) = rest.run(b'a', b'z');
         match word {
             b"in" => Ok(after),
             _ => Err(rest.refuse(Fault::WrongSign)),
@@ -138,7 +127,7 @@ impl<'a> Rest<'a> {
         ensures { Gives self.entry.end IsBinder (bindings self.entry.end (signs_in self.entry)) result }
     {
         let rest = self.skip();
-        let (name, after) = rest.word();
+        let (name, after) = rest.run(b'a', b'z');
         if name.is_empty() || !is_name(name) {
             return Err(rest.refuse(Fault::WrongSign));
         }
@@ -159,13 +148,14 @@ impl<'a> Rest<'a> {
         Ok(((first, second), rest))
     }
 
-    // Which term begins with the word that stands at the front.
+    // Which term begins with the word that stands at the front. What this and the next two promise is one word, `Opens`: it is no fact about
+    // one value.
     fn first_word(self) -> Read<'a, First<'a>>
         requires starts { 1 ≤ length self.bytes.now }
         requires letter { letter (slice_index self.bytes.now 0) ≡ true }
         ensures { Opens self.entry.end self.entry.bytes.now result }
     {
-        let (word, rest) = self.word();
+        let (word, rest) = self.run(b'a', b'z');
         match word {
             b"let" => Ok((First::Let, rest)),
             b"iter" => Ok((First::Iterator, rest)),
@@ -183,7 +173,8 @@ impl<'a> Rest<'a> {
         requires digit { digit (slice_index self.bytes.now 0) ≡ true }
         ensures { Opens self.entry.end self.entry.bytes.now result }
     {
-        let (digits, rest) = self.digits();
+        let (digits, rest) = self.run(b'0', b'9');
+        // The contract of `number` has a case for each answer, so they are told apart here and not by `map_err`.
         match number(digits) {
             Ok(n) => Ok((First::Number(n), rest)),
             Err(fault) => Err(self.refuse(fault)),

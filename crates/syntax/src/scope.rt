@@ -12,10 +12,12 @@ pub(crate) type Name = ArrayVec<u8, 16>;
 pub(crate) struct InForce {
     pub(crate) place: usize,
     pub(crate) name: Name,
+    // A flag by itself: the place and the name are there either way.
     pub(crate) used: bool,
 }
 
-// All names bound so far, those in force from the outermost, and the first fault of names so far.
+// All names bound so far, those in force from the outermost, and the first fault of names so far. Lists and no maps: no heap is asked
+// for while a text is read.
 #[derive(Drop)]
 pub(crate) struct Scope {
     pub(crate) bound: Vec<Name>,

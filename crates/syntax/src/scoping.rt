@@ -42,8 +42,7 @@ impl Scope {
 
     // A binder is met in the text: its name may be bound only once.
     pub(crate) fn declare(&mut self, binder: Binder)
-        requires room { length self.old.bound.items < 4096 }
-        requires short { length binder.name.now ≤ 16 }
+        requires { length self.old.bound.items < 4096 }
         ensures { names_of self.new ≡ declared (binder_at binder.entry) (names_of self.old) }
     {
         if self.binds(binder.name) {
@@ -54,8 +53,7 @@ impl Scope {
 
     // It comes into force.
     pub(crate) fn enter(&mut self, binder: Binder)
-        requires room { length self.old.in_force.items < 256 }
-        requires short { length binder.name.now ≤ 16 }
+        requires { length self.old.in_force.items < 256 }
         ensures { names_of self.new ≡ entered (binder_at binder.entry) (names_of self.old) }
     {
         self.in_force.push_reserved(InForce {

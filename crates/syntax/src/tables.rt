@@ -44,7 +44,8 @@ impl Program {
         at
     }
 
-    // Puts a type cell after the others.
+    // Puts a type cell after the others. One function for both lists would ask for the room that the ghost fields give, so it would be no
+    // plainer.
     pub(crate) fn put_type(&mut self, cell: TypeCell) -> usize
         requires { length self.old.types.items < 4096 }
         ensures { IsTypePut cell self.old self.new result }

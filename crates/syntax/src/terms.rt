@@ -37,7 +37,8 @@ pub(crate) fn term<'a>(
     after_first(first, rest, at, program, scope)
 }
 
-// Reads on after the first sign of a sub-term.
+// Reads on after the first sign of a sub-term. Where that began stays as it is while what is left moves on, so the two are no struct; and
+// what is asked here, as of each construct, is true only until its sub-term is put.
 #[cycle(after_first_application_body_function_iterator_let_in_pair_successor_term)]
 fn after_first<'a>(
     first: First<'a>,

@@ -40,7 +40,8 @@ fn cell(joint: Joint, first: usize, second: usize) -> TypeCell
     }
 }
 
-// Reads a type inside `depth` others, of which `open` have passed the sign between their parts.
+// Reads a type inside `depth` others, of which `open` have passed the sign between their parts. The depth stays while what is left moves
+// on, so the two are no struct.
 #[cycle(brackets_read_type)]
 fn read_type<'a>(
     rest: Rest<'a>,

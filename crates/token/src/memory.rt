@@ -14,14 +14,14 @@ pub enum IterCell {
     Pair(u32, u32),
 }
 
-// The side of a pair on which a counter counts; the other side keeps the number.
+// The side of a pair on which a counter counts; the other side keeps the number. Not `Letter`: a stack could then hold a side.
 #[derive(Clone, Copy, PartialEq, Eq, Debug)]
 pub enum Side {
     Left,
     Right,
 }
 
-// A cell on d: the question, or a number that answers it.
+// A cell on d: the question, or a number that answers it. Not an `Option`: the question is asked, and no number is missing.
 #[derive(Clone, Copy, PartialEq, Eq, Debug)]
 pub enum DataCell {
     Question,

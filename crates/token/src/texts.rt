@@ -1,4 +1,4 @@
-// The cells of a token's stacks as text.
+// The cells of a token's stacks as text: by `Text` and not `Display`, as that trait tells.
 ghost use Rattle.token.specs.Line.{letter_text, iter_text, data_text};
 
 use crate::memory::{DataCell, IterCell, Letter};

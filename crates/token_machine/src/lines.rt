@@ -6,7 +6,7 @@ use crate::tokens::Token;
 use machine::Reason;
 use writer::{Text, Writer, show_text};
 
-// The line of a token at a sum.
+// The line of a token at a sum: by `Text` and not `Display`, as that trait tells.
 #[derive(Drop)]
 struct Line<'t, 'a> {
     token: &'t Token<'a>,
@@ -28,6 +28,7 @@ impl Text for Line<'_, '_> {
         writer.bytes(b" i=");
         writer.stack(self.token.iters.as_slice());
         writer.bytes(b" s=");
+        // No `From` widens a `usize`.
         writer.number(self.token.shelves.count() as u64);
         writer.bytes(b" d=");
         writer.stack(self.token.datas.as_slice());

@@ -44,6 +44,8 @@ fn one_more(a: u32) -> Result<u32, Reason>
     a.checked_add(1).ok_or(Reason::Overflow)
 }
 
+// What each kind looks at is matched together, port and tops side by side, so they are parameters and no struct.
+
 pub(crate) fn at_number(value: u32, port: Port, top: Option<DataCell>) -> Result<Passage, Reason>
     ensures { result ≡ at_number value port top }
 {

@@ -10,7 +10,7 @@ pub enum Query {
 
 #[derive(Drop)]
 pub enum Reply {
-    // The line's length or why it is not there, and the buffer.
+    // The line's length or why it is not there, and the buffer: all of it is what is read, also what stands behind the line.
     Shown(Result<usize, Reason>, Vec<u8>),
     Number(Result<u32, Reason>),
 }

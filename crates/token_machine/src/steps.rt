@@ -87,7 +87,8 @@ impl<'a> Token<'a> {
         }
     }
 
-    // States that the numbers on the tops, and below them, are of 32 bits: so is whatever is read. What is read is let go.
+    // States that the numbers on the tops, and below them, are of 32 bits, and lets go what it reads.
+    // Without it the proof does not close: a token's type says nothing of the cells in lent memory until they are read.
     fn tops_fit(&self, j: u32)
         ensures { LowTops (tops_of j (stacks_of self.now)) }
     {
@@ -115,6 +116,7 @@ impl<'a> Token<'a> {
     }
 
     // The value of the node where the token arrives, and what the row that applies there does.
+    // The value stands beside the passage: as a field it is no plainer, since each row would set it and only a transfer's wants it.
     fn find_passage(&self) -> Result<(u32, Passage), Reason>
         ensures { Found (state_of self.now) result }
     {
@@ -143,6 +145,7 @@ impl<'a> Token<'a> {
         requires { self.now.to < 4294967295 }
         ensures { WayOut (nodes_of self.now.cells.now) (port_at (self.now.to / 3) place) result }
     {
+        // Below 2^32, since `to` is.
         let exit = place.at((self.to / 3) as usize) as u32;
         let link = link_of(self.cells, exit).ok_or(Reason::Unlinked)?;
         if link_of(self.cells, link) == Some(exit) {

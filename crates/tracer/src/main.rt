@@ -24,6 +24,7 @@ fn next_line(listing: &mut Listing<'_>, line: &mut [u8]) -> anyhow::Result<Optio
         .map_err(|_| anyhow!("a line is longer than the buffer"))
 }
 
+// The lines are in lent memory, so they are bytes and no `Display`.
 fn write_all_lines<W: Write>(
     out: &mut W,
     listing: &mut Listing<'_>,

@@ -1,8 +1,6 @@
 -- The words read so far, and one more.
 use Rattle.std.proofs.Common.{◌≡◌, ◌≢◌, ℕ, ◌+◌, ◌<◌, Bool, true, false, Some, None, Option, Err, refl, List, [], ◌∷◌, ◌++◌, map, length, get_or, take, drop, sym, ap, ◌∙◌, subst, take-append-drop}
 use Rattle.std.proofs.lemmas.List.{take_more, drop_more, map-append}
-use Rattle.std.specs.Option.{is_some}
-use Rattle.walk.specs.declared.plan.Counted.{Counted}
 use Rattle.walk.specs.declared.plan.Plan.{Plan}
 use Rattle.walk.specs.declared.plan.NoPlan.{NoPlan}
 use Rattle.walk.specs.declared.plan.NoPlan.TheVariants as no
@@ -19,14 +17,14 @@ cut_at f xs i x h e =
     ap (map f) (sym (take-append-drop i xs) ∙ ap (λ l. take i xs ++ l) (drop_more xs i x h ∙ ap (λ y. y ∷ drop (i + 1) xs) (sym e)))
     ∙ map-append f (take i xs) (x ∷ drop (i + 1) xs)
 
-pub taken_as : (q z : Plan) {w v : List ℕ} → w ≡ v → Taken q.waiting w q z true → Taken q.waiting v q z true
-taken_as q z e t = subst (λ (u : List ℕ). Taken q.waiting u q z true) e t
+pub taken_as : (q z : Plan) {w v : List ℕ} → w ≡ v → Taken q.wanted w q z true → Taken q.wanted v q z true
+taken_as q z e t = subst (λ (u : List ℕ). Taken q.wanted u q z true) e t
 
-pub led_more : {X : Type 0} (f : X → List ℕ) (xs : List X) (i : ℕ) (x : X) {p q z : Plan} → i < length xs → x ≡ get_or xs i x → Led p (map f (take i xs)) q → Taken q.waiting (f x) q z true → Led p (map f (take (i + 1) xs)) z
+pub led_more : {X : Type 0} (f : X → List ℕ) (xs : List X) (i : ℕ) (x : X) {p q z : Plan} → i < length xs → x ≡ get_or xs i x → Led p (map f (take i xs)) q → Taken q.wanted (f x) q z true → Led p (map f (take (i + 1) xs)) z
 led_more f xs i x {p} {q} {z} h e l t = subst (λ (ws : List (List ℕ)). Led p ws z) (sym (up_to f xs i x h e)) (one_more (f x) q l t)
 
 -- a word that is not taken is named, unless memory was wanting
-pub refused : {X : Type 0} (f : X → List ℕ) (xs : List X) (i : ℕ) (x : X) {p q : Plan} (z : Plan) (told : NoPlan) {w : List ℕ} → i < length xs → x ≡ get_or xs i x → w ≡ f x → IsBlank p → Led p (map f (take i xs)) q → Took q.waiting w q z (Err told) → Unplanned (map f xs) told
+pub refused : {X : Type 0} (f : X → List ℕ) (xs : List X) (i : ℕ) (x : X) {p q : Plan} (z : Plan) (told : NoPlan) {w : List ℕ} → i < length xs → x ≡ get_or xs i x → w ≡ f x → IsBlank p → Led p (map f (take i xs)) q → Took q.wanted w q z (Err told) → Unplanned (map f xs) told
 refused f xs i x {p} {q} z (no.NotKnown word) h e a b l t = record {
   start = p;
   blank = b;
@@ -35,16 +33,7 @@ refused f xs i x {p} {q} z (no.NotKnown word) h e a b l t = record {
   all = cut_at f xs i x h e;
   reached = q;
   led = l;
-  stops = (t.0 ∙ a, (t.1.0, subst (λ (v : List ℕ). Taken q.waiting v q t.1.0 false) a t.1.1));
+  stops = (t.0 ∙ a, (t.1.0, subst (λ (v : List ℕ). Taken q.wanted v q t.1.0 false) a t.1.1));
 }
 refused f xs i x z no.NoNumber h e a b l t = absurd t
 refused f xs i x z (no.Memory error) h e a b l t = tt
-
--- whether a number is wanted
-pub none_wanted : (k : Option Counted) → false ≡ is_some k → k ≡ None
-none_wanted None e = refl
-none_wanted (Some x) e = cc
-
-pub one_wanted : (k : Option Counted) → true ≡ is_some k → k ≢ None
-one_wanted None e = λ n. cc
-one_wanted (Some x) e = λ n. cc

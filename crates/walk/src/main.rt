@@ -14,6 +14,8 @@ use std::io::{BufWriter, Read, Write};
 use std::{env, io};
 use token_machine::{Query, Reply, Token};
 
+// Some words here are others than in `addition`; a grant is a tuple and a line is bytes, so neither has a `Display`.
+
 fn write_call<W: Write>(out: &mut W, call: &Call<Query>) -> io::Result<()> {
     match call {
         Call::Forward(k) => write!(out, "forward {k}: "),
@@ -58,7 +60,7 @@ fn write_answer<W: Write>(out: &mut W, answer: &Answer<Reply>) -> io::Result<()>
     }
 }
 
-// Performs all the calls, and then writes each with its answer.
+// Performs all the calls, and then writes each with its answer. Where to write and the heap are the program's surroundings, handed on.
 fn act<W: Write>(
     out: &mut W,
     heap: Global,

@@ -1,9 +1,8 @@
 // The words that ask for a walk, read one after another.
-ghost use Rattle.std.specs.Prelude.{◌≡◌, false, [], ◌∷◌, ◌++◌, map, string_bytes, MatchResult, Some, None, OnOk};
-ghost use Rattle.token.specs.declared.memory.DataCell.TheVariants.{Question};
+ghost use Rattle.std.specs.Prelude.{◌≡◌, [], ◌∷◌, ◌++◌, map, string_bytes, MatchResult, Some, OnOk};
 ghost use Rattle.walk.specs.declared.plan.NoPlan.TheVariants.{Memory};
-ghost use Rattle.walk.specs.Words.{Named, Wants, Becomes, Counts, Planned};
-ghost use Rattle.walk.specs.Refusing.{told_text, Took, Unplanned};
+ghost use Rattle.walk.specs.Words.{Named, Wants, Becomes, Counts, IsBlank, Planned};
+ghost use Rattle.walk.specs.Refusing.{told_text, Took, TookWord, Unplanned};
 
 use lab::LINE;
 use runs::Call;
@@ -20,15 +19,22 @@ enum Counted {
     Back,
 }
 
+// What the next word has to be.
+#[derive(Clone, Copy)]
+enum Wanted {
+    // A word, and the first one, so that it may open the token.
+    First,
+    Word,
+    // The number that the last word wants.
+    Number(Counted),
+}
+
 // What the words taken so far ask for: the cell that the token opens with, and the calls.
 #[derive(Drop)]
 pub struct Plan {
     pub first: DataCell,
     pub calls: Vec<Call<Query>>,
-    // The last word, if it wants a number.
-    waiting: Option<Counted>,
-    // Whether a word was taken.
-    begun: bool,
+    wanted: Wanted,
 }
 
 // Why words ask for no walk.
@@ -69,38 +75,37 @@ pub fn read_words<'w>(words: &'w [String], heap: Global) -> Result<Plan, NoPlan<
     for word in words {
         plan.take(word.as_str())?;
     }
-    if plan.waiting.is_some() {
-        return Err(NoPlan::NoNumber);
+    match plan.wanted {
+        Wanted::Number(_) => Err(NoPlan::NoNumber),
+        Wanted::First | Wanted::Word => Ok(plan),
     }
-    Ok(plan)
 }
 
 impl Plan {
     // With no word, the token opens with the question and nothing is called.
     fn new(heap: Global) -> Plan
-        ensures { (result.calls.items ≡ []) × ((result.first ≡ Question) × ((result.waiting ≡ None) × (result.begun ≡ false))) }
+        ensures { IsBlank result }
     {
         Plan {
             first: DataCell::Question,
             calls: Vec::new(heap),
-            waiting: None,
-            begun: false,
+            wanted: Wanted::First,
         }
     }
 
     // Takes one word more, if it is known where it stands.
     fn take<'w>(&mut self, word: &'w str) -> Result<(), NoPlan<'w>>
-        ensures { Took self.old.waiting word.now self.old self.new result }
+        ensures { Took self.old.wanted word.now self.old self.new result }
     {
-        match self.waiting {
-            Some(counted) => self.take_number(counted, word),
-            None => self.take_word(word),
+        match self.wanted {
+            Wanted::Number(counted) => self.take_number(counted, word),
+            Wanted::First | Wanted::Word => self.take_word(word),
         }
     }
 
     // Takes the number that the word before wants.
     fn take_number<'w>(&mut self, counted: Counted, word: &'w str) -> Result<(), NoPlan<'w>>
-        ensures { Took (Some counted) word.now self.old self.new result }
+        ensures { Took (Wanted.Number counted) word.now self.old self.new result }
     {
         let Ok(n) = word.parse::<u32>() else {
             return Err(NoPlan::NotKnown(word));
@@ -110,17 +115,16 @@ impl Plan {
     }
 
     fn take_word<'w>(&mut self, word: &'w str) -> Result<(), NoPlan<'w>>
-        ensures { Took None word.now self.old self.new result }
+        ensures { TookWord self.old.wanted word.now self.old self.new result }
     {
         if let Some(call) = call_of(word) {
             self.add(call)?;
             return Ok(());
         }
-        let Some(counted) = counted_of(word, self.begun) else {
+        let Some(counted) = counted_of(word, self.wanted) else {
             return Err(NoPlan::NotKnown(word));
         };
-        self.waiting = Some(counted);
-        self.begun = true;
+        self.wanted = Wanted::Number(counted);
         Ok(())
     }
 
@@ -131,8 +135,7 @@ impl Plan {
         match counted {
             Counted::Open => {
                 self.first = DataCell::Number(n);
-                self.waiting = None;
-                self.begun = true;
+                self.wanted = Wanted::Word;
                 Ok(())
             }
             Counted::Forward => self.add(Call::Forward(n)),
@@ -142,11 +145,10 @@ impl Plan {
 
     // Adds a call, after which no number is wanted.
     fn add(&mut self, call: Call<Query>) -> Result<(), AllocError>
-        ensures { OnOk result (Becomes self.new (self.old.calls.items ++ (call ∷ [])) self.old.first None) }
+        ensures { OnOk result (Becomes self.new (self.old.calls.items ++ (call ∷ [])) self.old.first Wanted.Word) }
     {
         self.calls.push(call)?;
-        self.waiting = None;
-        self.begun = true;
+        self.wanted = Wanted::Word;
         Ok(())
     }
 }
@@ -167,13 +169,13 @@ fn call_of(word: &str) -> Option<Call<Query>>
 }
 
 // The word, if it wants a number. A token is opened first of all, or not by a word.
-fn counted_of(word: &str, begun: bool) -> Option<Counted>
-    ensures { Wants word.now begun result }
+fn counted_of(word: &str, wanted: Wanted) -> Option<Counted>
+    ensures { Wants word.now wanted result }
 {
-    match word {
-        "open" => if begun { None } else { Some(Counted::Open) },
-        "forward" => Some(Counted::Forward),
-        "back" => Some(Counted::Back),
+    match (word, wanted) {
+        ("open", Wanted::First) => Some(Counted::Open),
+        ("forward", _) => Some(Counted::Forward),
+        ("back", _) => Some(Counted::Back),
         _ => None,
     }
 }

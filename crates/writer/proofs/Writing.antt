@@ -1,6 +1,6 @@
 -- One text written after another.
-use Rattle.std.proofs.Common.{◌≡◌, ℕ, ◌+◌, ◌-◌, ◌^◌, ◌<◌, ◌≤◌, min, true, false, List, [], ◌∷◌, ◌++◌, reverse, length, get_or, take, drop, set, map, Bor, ℤ, pos, negsuc, nat_abs, decimal, sym, refl, ap, ◌∙◌, subst, inl, inr, append_assoc, append-nil, add-zero, add-one, arith, length-append, length-set, take-append-drop, length-take}
-use lib.Seq.{paste, set_split, take-append_seam, take-append-le}
+use Rattle.std.proofs.Common.{◌≡◌, ℕ, ◌+◌, ◌-◌, ◌<◌, ◌≤◌, true, false, List, [], ◌∷◌, ◌++◌, reverse, length, get_or, take, drop, map, Bor, ℤ, pos, negsuc, nat_abs, decimal, sym, refl, ap, ◌∙◌, subst, inl, inr, append_assoc, append-nil, add-zero, arith, length-append, take-append-drop, length-take}
+use lib.Seq.{paste, take-append_seam, take-append-le}
 use lib.Signed.{lt_z}
 use Rattle.std.specs.Fmt.{signed_decimal}
 use borrow.Author.Tests.{ltb-true}
@@ -20,9 +20,6 @@ laid_more old at a b h =
     ∙ paste-paste old at a b (length a) (length b) refl refl (omega arith)
     ∙ ap (λ (n : ℕ). paste old at (a ++ b) n) (sym (length-append a b)) ∙ sym (laid_is old at (a ++ b))
 
-laid_one : (old : List ℕ) (at b : ℕ) → at < length old → set old at b ≡ laid old at (b ∷ [])
-laid_one old at b h = rw add-one (set_split old at b h)
-
 -- nothing is put past the end
 past_end : (old : List ℕ) (at : ℕ) (bs : List ℕ) → length old ≤ at → old ≡ take (length old) (take at old ++ bs)
 past_end old at bs h = sym (ap (λ l. take (length old) (l ++ bs)) (take_all at old h) ∙ take-append_seam old bs)
@@ -34,12 +31,6 @@ below_end old at a h =
     ap (take (at + length a)) (sym (append_assoc (take at old) a (drop (at + length a) old)))
     ∙ ap (λ n. take n ((take at old ++ a) ++ drop (at + length a) old)) (sym long)
     ∙ take-append_seam (take at old ++ a) (drop (at + length a) old)
-
-pub puts_in : (old : List ℕ) (at b past : ℕ) → at < length old → past ≡ min (at + 1) (2 ^ 64 - 1) → Puts old at (b ∷ []) (set old at b) past
-puts_in old at b past h e = record { size = length-set old at b; end = λ _. e; bytes = λ _ _. laid_one old at b h; cut = λ _ _ k. absurd (omega arith) }
-
-pub puts_out : (old : List ℕ) (at b past : ℕ) → length old ≤ at → past ≡ min (at + 1) (2 ^ 64 - 1) → Puts old at (b ∷ []) old past
-puts_out old at b past h e = record { size = refl; end = λ _. e; bytes = λ _ k. absurd (omega arith); cut = λ _ _ _. past_end old at (b ∷ []) h }
 
 puts_more : {old mid new : List ℕ} {at m n : ℕ} (a b : List ℕ) → Puts old at a mid m → Puts mid m b new n → Puts old at (a ++ b) new n
 puts_more {old} {mid} {new} {at} {m} {n} a b x y =

@@ -8,7 +8,7 @@ ghost use Rattle.writer.specs.Written.{Wrote, Shown, listed};
 use machine::Reason;
 
 // The buffer, and how many bytes have been put. Bytes past the buffer's end are counted and go nowhere,
-// so a text is measured by writing it to an empty buffer.
+// so a text is measured by writing it to an empty buffer. The buffer is the host's, so it is no `Vec`.
 #[derive(Drop)]
 pub struct Writer<'a> {
     pub buf: &'a mut [u8],
@@ -47,6 +47,7 @@ impl Writer<'_> {
         if n >= 10 {
             self.number(n / 10);
         }
+        // One digit, so a byte.
         self.put(b'0' + (n % 10) as u8);
     }
 

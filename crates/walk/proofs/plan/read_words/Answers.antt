@@ -1,14 +1,12 @@
-use Rattle.std.proofs.Common.{◌≡◌, [], ◌∷◌, ◌+◌, map, take, drop, string_bytes, sym, ap, ◌∙◌, arith, refl, rules, append-nil}
+use Rattle.std.proofs.Common.{◌≡◌, [], ◌∷◌, ◌+◌, map, take, drop, string_bytes, sym, ap, ◌∙◌, arith, refl, inl, inr, append-nil}
 use Rattle.std.proofs.lemmas.List.{take_all}
 use Rattle.walk.specs.Words.{none_yet}
 use Rattle.std.proofs.lemmas.Result.{err_from_is_err_and}
-use Rattle.walk.proofs.Reading.{taken_as, led_more, refused, none_wanted, one_wanted}
+use Rattle.walk.proofs.Reading.{taken_as, led_more, refused}
 use Rattle.walk.proofs.plan.read_words.Goals as goal
 
 pub loop-word-init : goal.loop-word-init
-loop-word-init c =
-    let b = c.new-plan.ensures in
-    (record { calls = b.0; first = b.1.0; waiting = b.1.1.0; begun = b.1.1.1 }, none_yet)
+loop-word-init c = (c.new-plan.ensures, none_yet)
 
 pub returns-in_err-take : goal.returns-in_err-take
 returns-in_err-take c =
@@ -20,8 +18,8 @@ pub loop-word-preserved : goal.loop-word-preserved
 loop-word-preserved c =
     (c.loop-word.invariant.0, led_more string_bytes c.args.words.now c.loop-word.word-index c.word-item.result (omega arith) c.word-item.is c.loop-word.invariant.1 (taken_as c.loop-word.plan c.take.new.self c.as_str.ensures.value c.in_ok-take.ensures))
 
-pub returns-then-is_some : goal.returns-then-is_some
-returns-then-is_some c =
+pub returns-in-Number : goal.returns-in-Number
+returns-in-Number c =
     let i = c.loop-word.word-index in
     let ws = c.args.words.now in
     let all : take i ws ≡ ws = take_all i ws (omega arith) in
@@ -33,7 +31,7 @@ returns-then-is_some c =
       all = sym (append-nil (map string_bytes (take i ws)) ∙ ap (map string_bytes) all);
       reached = c.loop-word.plan;
       led = c.loop-word.invariant.1;
-      stops = (one_wanted c.loop-word.plan.waiting c.if-is_some.ensures, refl);
+      stops = (c.in-Number.field-0, c.in-Number.is, refl);
     }
 
 pub returns : goal.returns
@@ -41,5 +39,5 @@ returns c = record {
   start = c.new-plan.result;
   blank = c.loop-word.invariant.0;
   led = rw (take_all c.loop-word.word-index c.args.words.now (omega arith)) at c.loop-word.invariant.1;
-  whole = none_wanted c.loop-word.plan.waiting c.if-is_some.ensures;
+  whole = λ k e. elim c.in-First.is [ inl f ↦ cc | inr f ↦ cc ];
 }

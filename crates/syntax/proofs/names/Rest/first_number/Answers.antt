@@ -19,17 +19,17 @@ failed end s fits part n m f {p} {ds} e x = go (is_number ds) refl
 pub number-requires-clause-digits : goal.number-requires-clause-digits
 number-requires-clause-digits c k h =
     let s = c.args.self.bytes.now in
-    ap (λ w. digit (get_or w k 0)) c.digits.ensures.front ∙ run_all digit s k (omega (arith, ap length c.digits.ensures.front))
+    ap (λ w. digit (get_or w k 0)) c.run.ensures.front ∙ run_all digit s k (omega (arith, ap length c.run.ensures.front))
 
 pub returns-in-Ok : goal.returns-in-Ok
 returns-in-Ok c =
     let s = c.args.self.bytes.now in
-    let e = digits_front c.args.self.end s c.digits.result.0.now c.digits.result.1.bytes.now c.requires.starts c.requires.digit c.digits.ensures.front c.digits.ensures.rest in
+    let e = digits_front c.args.self.end s c.run.result.0.now c.run.result.1.bytes.now c.requires.starts c.requires.digit c.run.ensures.front c.run.ensures.rest in
     let x = c.in-Ok.ensures in
     (λ fits part n m. by_number c.args.self.end s fits part n m e c.in-Ok.n x.0 x.1 x.2, cc)
 
 pub returns-in-Err : goal.returns-in-Err
 returns-in-Err c =
     let s = c.args.self.bytes.now in
-    let e = digits_front c.args.self.end s c.digits.result.0.now c.digits.result.1.bytes.now c.requires.starts c.requires.digit c.digits.ensures.front c.digits.ensures.rest in
+    let e = digits_front c.args.self.end s c.run.result.0.now c.run.result.1.bytes.now c.requires.starts c.requires.digit c.run.ensures.front c.run.ensures.rest in
     λ fits part n m. failed c.args.self.end s fits part n m c.in-Err.fault e c.in-Err.ensures ∙ ap refused (sym c.refuse.ensures)
