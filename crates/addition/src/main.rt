@@ -108,6 +108,7 @@ fn tell(rt: &HostRuntime, call: &str, grant: Grant) -> io::Result<()> {
     granted(rt, grant)
 }
 
+// As in `show`: too little is alike for a library.
 fn granted(rt: &HostRuntime, grant: Grant) -> io::Result<()> {
     match grant {
         (steps, None) => println!(rt; "granted {steps}"),

@@ -71,6 +71,7 @@ impl Port {
     pub fn at(self, node: usize) -> usize
         ensures { result ≡ min (port_at node self) (2 ^ 64 - 1) }
     {
+        // `as` is how an enum gives its number.
         node.saturating_mul(3).saturating_add(self as usize)
     }
 }

@@ -38,6 +38,7 @@ fn number_of(why: Option<Reason>) -> u8
     }
 }
 
+// A part of the end line, so no `Text` of its own.
 fn write_number(number: Option<u32>, writer: &mut Writer<'_>)
     ensures { Wrote writer.old (number_text number) writer.new }
 {

@@ -5,7 +5,7 @@ use cells::Cell;
 use std::alloc::{AllocError, Global};
 use token::{DataCell, IterCell, Letter};
 
-// The memory that a host lends to a session: cells for the network, and cells for the token's stacks. Each is of a kind of its own.
+// The memory that a host lends to a session: cells for the network, and cells for the token's stacks. A slice for each use, since a host lends each by itself.
 #[derive(Drop)]
 pub struct Memory<'a> {
     pub cells: &'a mut [Cell],
@@ -31,7 +31,7 @@ const BLANK: Cell = Cell {
     links: [0; 3],
 };
 
-// The memory that the programs lend, a vector for each kind of cell: 2,048 nodes, 256 letters, 256 iterator, 4,096 shelf and 1,024 data cells.
+// The memory that the programs lend, a vector for each use: 2,048 nodes, 256 letters, 256 iterator, 4,096 shelf and 1,024 data cells.
 #[derive(Drop)]
 pub struct Reserve {
     cells: Vec<Cell>,

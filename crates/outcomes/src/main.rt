@@ -32,6 +32,7 @@ fn tell<W: Write>(
     Ok(())
 }
 
+// Lines are bytes, as `tell` says.
 fn tell_all<W: Write>(out: &mut W, rt: &HostRuntime, texts: &[u8]) -> anyhow::Result<()> {
     let heap = rt.alloc();
     let mut builder = Builder::new(heap)?;

@@ -15,6 +15,7 @@ const DEPTH: usize = 64;
 pub struct Shelves<'a, T> {
     cells: &'a mut [T],
     // The heights alone, not 64 stacks: those would each hold a slice, and a generic struct has no array of a type parameter.
+    // They are widened by `as`: by `usize::from` the proofs of `shelf` and `edit` did not close.
     heights: [u8; 64],
     ghost fits: { (k : ℕ) → slice_index heights k ≤ slot_room (length cells.now) k },
 }

@@ -12,7 +12,7 @@ pub struct Stack<'a, T> {
     ghost fits: { height ≤ length cells.now },
 }
 
-// Asks whether, above `height` of so many cells, `n` more are free.
+// Asks whether, above `height` of so many cells, `n` more are free. No method: a shelf that is missing has no stack.
 pub(crate) fn ask(room: usize, height: usize, n: usize) -> Result<(), Reason>
     requires { height ≤ room }
     ensures { Asked room height n result }
@@ -124,7 +124,7 @@ impl<'a, T: Copy> Stack<'a, T> {
         }
     }
 
-    // Does an edit, or refuses it and changes nothing where a cell is wanting. That the room stays is a promise of each
+    // Does an edit, or refuses it and changes nothing where a cell is wanting. That the room and the memory stay is a promise of each
     // call, and no fact about one value.
     pub fn edit(&mut self, e: Edit<T>) -> Result<(), Reason>
         ensures answer { Answered (held self.old) (room self.old) e result (held self.new) }

@@ -2,7 +2,7 @@ ghost use Rattle.std.specs.Prelude.{◌≤◌, length};
 
 use crate::refusal::Refusal;
 
-// What is left of a text, which ends at `end`.
+// What is left of a text, which ends at `end`: that is a place of the whole text, and no length of `bytes`.
 #[derive(Clone, Copy)]
 pub(crate) struct Rest<'a> {
     pub(crate) bytes: &'a [u8],
@@ -13,7 +13,7 @@ pub(crate) struct Rest<'a> {
 // What a reader gives: a value, and what is left of the text after it.
 pub(crate) type Read<'a, T> = Result<(T, Rest<'a>), Refusal>;
 
-// A name where it is bound: its letters in the text, with the place of the first.
+// A name where it is bound: its letters in the text, with the place of the first, which is no length of `name`.
 #[derive(Clone, Copy)]
 pub(crate) struct Binder<'a> {
     pub(crate) place: usize,

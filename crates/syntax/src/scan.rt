@@ -174,7 +174,7 @@ impl<'a> Rest<'a> {
         ensures { Opens self.entry.end self.entry.bytes.now result }
     {
         let (digits, rest) = self.run(b'0', b'9');
-        // The contract of `number` has a case for each answer, so they are told apart here and not by `map_err`.
+        // Tried by `map_err`: the answers stay open, since the contract of `number` has a case for each.
         match number(digits) {
             Ok(n) => Ok((First::Number(n), rest)),
             Err(fault) => Err(self.refuse(fault)),

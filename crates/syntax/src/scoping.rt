@@ -17,7 +17,7 @@ fn copied(word: &[u8]) -> Name
     ArrayVec::try_from(word).unwrap()
 }
 
-// The one that goes first, of a refusal and perhaps another.
+// The one that goes first, of a refusal and perhaps another: the `min` of two Options would prefer none.
 #[tactic(auto, using(crate::proofs::Order::less_before))]
 fn sooner(a: Refusal, other: Option<Refusal>) -> Option<Refusal>
     ensures { result ≡ soonest a other }

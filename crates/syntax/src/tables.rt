@@ -4,7 +4,8 @@ use crate::program::{Shape, Subterm, TypeCell};
 use crate::scope::Scope;
 use std::alloc::{AllocError, Global};
 
-// A program as memory holds it: sub-terms and type cells, parts before wholes.
+// A program as memory holds it: sub-terms and type cells, parts before wholes, by number and in no box, since no heap is asked for while
+// a text is read.
 #[derive(Drop)]
 pub struct Program {
     pub subterms: Vec<Subterm>,

@@ -31,6 +31,7 @@ impl<'a> Rest<'a> {
     }
 }
 
+// Like `pair_on` of `token_machine` in shape alone.
 fn cell(joint: Joint, first: usize, second: usize) -> TypeCell
     ensures { result ≡ cell_of joint first second }
 {

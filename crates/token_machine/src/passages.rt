@@ -157,7 +157,7 @@ pub(crate) fn at_iterator(
     }
 }
 
-// A pair with its count on this side, and what it keeps on the other.
+// A pair with its count on this side, and what it keeps on the other. Like `cell` of `syntax` in shape alone.
 fn pair_on(side: Side, count: u32, kept: u32) -> IterCell
     ensures { result ≡ pair_on side count kept }
 {

@@ -3,7 +3,7 @@ use machine::Reason;
 // What a walk of a token may be asked to read.
 #[derive(Drop)]
 pub enum Query {
-    // The token's line, in a buffer of so many bytes.
+    // The token's line, in a buffer of so many bytes: a size asked for, with no buffer beside it.
     Show(usize),
     Number,
 }

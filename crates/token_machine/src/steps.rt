@@ -145,7 +145,7 @@ impl<'a> Token<'a> {
         requires { self.now.to < 4294967295 }
         ensures { WayOut (nodes_of self.now.cells.now) (port_at (self.now.to / 3) place) result }
     {
-        // Below 2^32, since `to` is.
+        // Below 2^32, since `to` is below 2^32 - 1.
         let exit = place.at((self.to / 3) as usize) as u32;
         let link = link_of(self.cells, exit).ok_or(Reason::Unlinked)?;
         if link_of(self.cells, link) == Some(exit) {

@@ -38,7 +38,7 @@ mod tests {
     }
 
     // Opens a token with the first data cell, goes forward, and says how far it came, with its number. The lent arrays stand in each test
-    // that opens one: a function that lends them out of a struct gets no proof.
+    // that opens one: arrays lent out of a struct get no proof.
     fn walked<const N: usize>(
         cells: [Cell; N],
         first: DataCell,
