@@ -45,8 +45,9 @@ def functions():
         text = open(f).read()
         for m in re.finditer(r"(?m)^( *)(?:pub(?:\([a-z]+\))? )?fn \w+", text):
             end = re.search(r"(?m)^%s\}" % m.group(1), text[m.start():])
-            stop = text.find(";", m.start())
-            if end is None:
+            stop = re.search(r"(?m)^%s\{|\{\}?$|;$" % m.group(1), text[m.start():])
+            # a method of a trait may have no body
+            if end is None or stop is None or stop.group(0) == ";":
                 continue
             body = text[m.start(): m.start() + end.end()]
             found.append(Function(f.relative_to(top / "crates"), text.count("\n", 0, m.start()) + 1, body))
