@@ -15,7 +15,7 @@ pub use listing::{LINE, Listing, line_buffer, show_outcome};
 pub use memory::{Memory, Reserve};
 pub use opening::open;
 pub use performing::perform;
-pub use refusals::Refused;
+pub use refusals::{Refused, write_refused};
 pub use stages::Stage;
 pub use worked::known_outcomes;
 pub use writer::show_text;

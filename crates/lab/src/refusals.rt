@@ -1,6 +1,9 @@
+ghost use Rattle.std.specs.Prelude.{OnOk};
+ghost use Rattle.std.specs.Io.KnownBytes.{Appends};
 ghost use Rattle.lab.specs.Refusals.{refusal_text};
 
 use crate::memory::Memory;
+use std::io::{self, Write};
 use syntax::refusal::Refusal;
 use writer::{Text, Writer};
 
@@ -23,4 +26,11 @@ impl<'a> Text for Refused<'a> {
         writer.number(self.refusal.place as u64);
         writer.bytes(b"\n");
     }
+}
+
+// Writes why a text is refused, as a line.
+pub fn write_refused<W: Write>(out: &mut W, refused: &Refused<'_>) -> io::Result<()>
+    ensures { OnOk result (Appends (W.contents out.old) (W.contents out.new) (refusal_text refused.now.refusal)) }
+{
+    writeln!(out, "{}", refused.refusal)
 }

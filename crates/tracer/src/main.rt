@@ -8,7 +8,7 @@ ghost use Rattle.lab.specs.Listings.{rest_of};
 
 use anyhow::anyhow;
 use input::read_text;
-use lab::{Listing, Reserve, line_buffer, open};
+use lab::{Listing, Reserve, line_buffer, open, write_refused};
 use machine::Walk;
 use network::Builder;
 use std::alloc::Global;
@@ -43,7 +43,7 @@ fn trace<W: Write>(out: &mut W, heap: Global, text: &[u8]) -> anyhow::Result<()>
     let mut line = line_buffer(heap)?;
     match open(&mut builder, text, reserve.lend(), DataCell::Question) {
         Ok(token) => write_all_lines(out, &mut Listing::new(Walk::new(token)), &mut line)?,
-        Err(refused) => writeln!(out, "{}", refused.refusal)?,
+        Err(refused) => write_refused(out, &refused)?,
     }
     Ok(())
 }

@@ -4,7 +4,7 @@
 mod plan;
 
 use input::read_text;
-use lab::{Reserve, open, perform};
+use lab::{Reserve, open, perform, write_refused};
 use machine::{Grant, Walk};
 use network::Builder;
 use plan::{NoPlan, Plan, read_words};
@@ -81,7 +81,7 @@ fn follow<W: Write>(out: &mut W, heap: Global, text: &[u8], plan: &Plan) -> anyh
     let mut reserve = Reserve::new(heap)?;
     match open(&mut builder, text, reserve.lend(), plan.first) {
         Ok(token) => act(out, heap, &mut Walk::new(token), &plan.calls)?,
-        Err(refused) => writeln!(out, "{}", refused.refusal)?,
+        Err(refused) => write_refused(out, &refused)?,
     }
     Ok(())
 }
