@@ -88,10 +88,10 @@ impl Scope {
 
     // Names that go out of force have to be used.
     pub(crate) fn settle(&mut self, before: usize)
-        requires { before ≤ length self.old.in_force.items }
         ensures { names_of self.new ≡ settled before (names_of self.old) }
     {
-        let idle = self.in_force[before..].iter().filter(|name| !name.used);
+        let own = self.in_force.get(before..).unwrap_or(&[]);
+        let idle = own.iter().filter(|name| !name.used);
         self.least = idle.fold(self.least, |least, name| {
             sooner(
                 Refusal {
