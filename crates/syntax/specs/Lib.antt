@@ -4,6 +4,7 @@ pub mod Signs
 pub mod Grammar
 pub mod Parse
 pub mod Names
+pub mod Order
 pub mod Layout
 pub mod Scopes
 pub mod Held

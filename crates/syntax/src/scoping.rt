@@ -90,7 +90,8 @@ impl Scope {
     pub(crate) fn settle(&mut self, before: usize)
         ensures { names_of self.new ≡ settled before (names_of self.old) }
     {
-        let idle = self.in_force.iter().skip(before).filter(|name| !name.used);
+        let own = self.in_force.get(before..).unwrap_or(&[]);
+        let idle = own.iter().filter(|name| !name.used);
         self.least = idle.fold(self.least, |least, name| {
             sooner(
                 Refusal {
