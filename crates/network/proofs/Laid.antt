@@ -76,7 +76,7 @@ pub record Two (parts : List Part) (i j k : ℕ) (s : Shape) (next : Next) (size
   pub right : {own after : Next} {size' : ℕ} {cs c₁ c₂ : List Cell} → OwnLaid s next own cs c₁ → LaidOut a own after c₁ c₂ → size' ≡ size → Layable parts k after size' b
   pub whole : {own after r : Next} {cs c₁ c₂ c₃ : List Cell} → OwnLaid s next own cs c₁ → LaidOut a own after c₁ c₂ → LaidOut b after r c₂ c₃ → LaidOut t next r cs c₃
 
--- the step and the base have Transfer nodes behind them, as many as were counted
+-- the step and the base have Transfer nodes behind them, as many as were counted. For the room it is enough that those of the step lie no further on
 pub record Three (parts : List Part) (i j k l : ℕ) (s : Shape) (next : Next) (size : ℕ) (t : Term) : Type 0 where
   pub a : Term
   pub b : Term
@@ -87,8 +87,8 @@ pub record Three (parts : List Part) (i j k l : ℕ) (s : Shape) (next : Next) (
   pub count : {own : Next} {size' : ℕ} {cs c₁ : List Cell} → OwnLaid s next own cs c₁ → size' ≡ size → Layable parts j own size' a
   pub step : {own n₂ : Next} {size' : ℕ} {cs c₁ c₂ : List Cell} → OwnLaid s next own cs c₁ → LaidOut a own n₂ c₁ c₂ → size' ≡ size → Layable parts k n₂ size' b
   pub step_room : {own n₂ n₃ : Next} {cs c₁ c₂ c₃ : List Cell} → OwnLaid s next own cs c₁ → LaidOut a own n₂ c₁ c₂ → LaidOut b n₂ n₃ c₂ c₃ → n₃.node + length (free b) ≤ size
-  pub base : {own n₂ n₃ n₄ : Next} {u size' : ℕ} {cs c₁ c₂ c₃ c₄ : List Cell} → OwnLaid s next own cs c₁ → LaidOut a own n₂ c₁ c₂ → LaidOut b n₂ n₃ c₂ c₃ → u ≡ length (free b) → LaidNodes (replicate u (Transfer, next.iterator)) 0 n₃ n₄ c₃ c₄ → size' ≡ size → Layable parts l n₄ size' c
-  pub base_room : {own n₂ n₃ n₄ n₅ : Next} {u : ℕ} {cs c₁ c₂ c₃ c₄ c₅ : List Cell} → OwnLaid s next own cs c₁ → LaidOut a own n₂ c₁ c₂ → LaidOut b n₂ n₃ c₂ c₃ → u ≡ length (free b) → LaidNodes (replicate u (Transfer, next.iterator)) 0 n₃ n₄ c₃ c₄ → LaidOut c n₄ n₅ c₄ c₅ → n₅.node + length (free c) ≤ size
+  pub base : {own n₂ n₃ m₃ n₄ : Next} {u size' : ℕ} {cs c₁ c₂ c₃ d₃ c₄ : List Cell} → OwnLaid s next own cs c₁ → LaidOut a own n₂ c₁ c₂ → LaidOut b n₂ n₃ c₂ c₃ → u ≡ length (free b) → LaidNodes (replicate u (Transfer, next.iterator)) 0 m₃ n₄ d₃ c₄ → (m₃.node ≤ n₃.node) × (m₃.iterator ≤ n₃.iterator) → size' ≡ size → Layable parts l n₄ size' c
+  pub base_room : {own n₂ n₃ m₃ n₄ n₅ : Next} {u : ℕ} {cs c₁ c₂ c₃ d₃ c₄ c₅ : List Cell} → OwnLaid s next own cs c₁ → LaidOut a own n₂ c₁ c₂ → LaidOut b n₂ n₃ c₂ c₃ → u ≡ length (free b) → LaidNodes (replicate u (Transfer, next.iterator)) 0 m₃ n₄ d₃ c₄ → m₃.node ≤ n₃.node → LaidOut c n₄ n₅ c₄ c₅ → n₅.node + length (free c) ≤ size
   pub whole : {own n₂ n₃ n₄ n₅ r : Next} {u u' : ℕ} {cs c₁ c₂ c₃ c₄ c₅ c₆ : List Cell} → OwnLaid s next own cs c₁ → LaidOut a own n₂ c₁ c₂ → LaidOut b n₂ n₃ c₂ c₃ → u ≡ length (free b) → LaidNodes (replicate u (Transfer, next.iterator)) 0 n₃ n₄ c₃ c₄ → LaidOut c n₄ n₅ c₄ c₅ → u' ≡ length (free c) → LaidNodes (replicate u' (Transfer, next.iterator)) 0 n₅ r c₅ c₆ → LaidOut t next r cs c₆
 
 -- the free uses of a part, as they were counted
@@ -173,8 +173,8 @@ module _ {parts : List Part} {i : ℕ} {next : Next} {size : ℕ} {t : Term} {p 
         count = λ o y. record { holds = d; room = omega (arith, w.room, o.node, y); few = omega (arith, w.few, o.iterator) };
         step = λ o x y. record { holds = d'; room = omega (arith, w.room, o.node, long a x, y); few = omega (arith, w.few, o.iterator, x.iterator) };
         step_room = λ o x y. omega (arith, w.room, o.node, long a x, long b y);
-        base = λ {u = u} o x y m v n. record { holds = d''; room = omega (arith, w.room, o.node, long a x, long b y, m, v.node, length-replicate {A = Made} u (Transfer, next.iterator), n); few = omega (arith, w.few, o.iterator, x.iterator, y.iterator, v.iterator) };
-        base_room = λ {u = u} o x y m v y'. omega (arith, w.room, o.node, long a x, long b y, m, v.node, length-replicate {A = Made} u (Transfer, next.iterator), long c y');
+        base = λ {u = u} o x y m v f n. record { holds = d''; room = omega (arith, w.room, o.node, long a x, long b y, m, v.node, length-replicate {A = Made} u (Transfer, next.iterator), f.0, n); few = omega (arith, w.few, o.iterator, x.iterator, y.iterator, v.iterator, f.1) };
+        base_room = λ {u = u} o x y m v f y'. omega (arith, w.room, o.node, long a x, long b y, m, v.node, length-replicate {A = Made} u (Transfer, next.iterator), f, long c y');
         whole = λ {own} {n₂} {n₃} {n₄} o x y m v y' m' v'.
             (let i₁ : own.iterator ≡ suc next.iterator = omega (arith, o.iterator) in
             let i₂ : n₂.iterator ≡ suc next.iterator + iterators a = omega (arith, x.iterator, i₁) in

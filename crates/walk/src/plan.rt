@@ -68,6 +68,7 @@ impl fmt::Display for NoPlan<'_> {
 }
 
 // Reads the words one after another, or names the first that is not known where it stands.
+#[tactic(auto, using(crate::proofs::Reading::refused, crate::proofs::Reading::taken_as, crate::proofs::Reading::led_more))]
 pub fn read_words<'w>(words: &'w [String], heap: Global) -> Result<Plan, NoPlan<'w>>
     ensures { MatchResult result (Planned (map string_bytes words.now)) (Unplanned (map string_bytes words.now)) }
 {

@@ -47,7 +47,7 @@ lay_transfers-passed-requires n c =
     let own = c.lay_own-own.ensures in
     let x = c.lay-counted.ensures o.a (o.count own (omega arith)) in
     let y = c.lay-stepped.ensures o.b (o.step own x (omega arith)) in
-    omega (arith, o.uses c.part_at.ensures, o.step_room own x y)
+    omega (arith, o.uses c.part_at.ensures, o.step_room own x y, y.node)
 
 pub lay-based-requires : goal.lay-based-requires
 lay-based-requires n c =
@@ -55,7 +55,7 @@ lay-based-requires n c =
     let own = c.lay_own-own.ensures in
     let x = c.lay-counted.ensures o.a (o.count own (omega arith)) in
     let y = c.lay-stepped.ensures o.b (o.step own x (omega arith)) in
-    (omega (arith, o.less), (o.c, o.base own x y (o.uses c.part_at.ensures) c.lay_transfers-passed.ensures (omega arith)))
+    (omega (arith, o.less), (o.c, o.base own x y (o.uses c.part_at.ensures) c.lay_transfers-passed.ensures (omega (arith, y.node), omega (arith, y.iterator)) (omega arith)))
 
 pub lay_transfers-requires : goal.lay_transfers-requires
 lay_transfers-requires n c =
@@ -65,8 +65,8 @@ lay_transfers-requires n c =
     let u = o.uses c.part_at.ensures in
     let x = c.lay-counted.ensures o.a (o.count own (omega arith)) in
     let y = c.lay-stepped.ensures o.b (o.step own x (omega arith)) in
-    let z = c.lay-based.ensures o.c (o.base own x y u v (omega arith)) in
-    omega (arith, o.uses' c.part_at-in-Iterator.ensures, o.base_room own x y u v z)
+    let z = c.lay-based.ensures o.c (o.base own x y u v (omega (arith, y.node), omega (arith, y.iterator)) (omega arith)) in
+    omega (arith, o.uses' c.part_at-in-Iterator.ensures, o.base_room own x y u v (omega (arith, y.node)) z)
 
 pub returns-in-Variable : goal.returns-in-Variable
 returns-in-Variable n c t g = none c.part_at-shape.ensures g c.in-Variable.is c.lay_own-own.ensures
@@ -98,5 +98,5 @@ returns-in-Iterator n c t g =
     let u = o.uses c.part_at.ensures in
     let x = c.lay-counted.ensures o.a (o.count own (omega arith)) in
     let y = c.lay-stepped.ensures o.b (o.step own x (omega arith)) in
-    let z = c.lay-based.ensures o.c (o.base own x y u v (omega arith)) in
+    let z = c.lay-based.ensures o.c (o.base own x y u v (omega (arith, y.node), omega (arith, y.iterator)) (omega arith)) in
     o.whole own x y u v z (o.uses' c.part_at-in-Iterator.ensures) c.lay_transfers.ensures

@@ -1,22 +1,10 @@
-use Rattle.std.proofs.Common.{◌≡◌, [], ◌∷◌, ◌+◌, map, take, drop, string_bytes, sym, ap, ◌∙◌, arith, refl, inl, inr, append-nil}
+use Rattle.std.proofs.Common.{◌≡◌, [], map, take, string_bytes, sym, ap, ◌∙◌, arith, refl, inl, inr, append-nil}
 use Rattle.std.proofs.lemmas.List.{take_all}
 use Rattle.walk.specs.Words.{none_yet}
-use Rattle.std.proofs.lemmas.Result.{err_from_is_err_and}
-use Rattle.walk.proofs.Reading.{taken_as, led_more, refused}
 use Rattle.walk.proofs.plan.read_words.Goals as goal
 
 pub loop-word-init : goal.loop-word-init
 loop-word-init c = (c.new-plan.ensures, none_yet)
-
-pub returns-in_err-take : goal.returns-in_err-take
-returns-in_err-take c =
-    let p = err_from_is_err_and c.from_residual.result c.from_residual.ensures.1 in
-    let i = c.loop-word.word-index in
-    rw p.1 (rw p.2 (refused string_bytes c.args.words.now i c.word-item.result c.take.new.self c.in_err-take.field-0.0 (omega arith) c.word-item.is c.as_str.ensures.value c.loop-word.invariant.0 c.loop-word.invariant.1 c.in_err-take.ensures))
-
-pub loop-word-preserved : goal.loop-word-preserved
-loop-word-preserved c =
-    (c.loop-word.invariant.0, led_more string_bytes c.args.words.now c.loop-word.word-index c.word-item.result (omega arith) c.word-item.is c.loop-word.invariant.1 (taken_as c.loop-word.plan c.take.new.self c.as_str.ensures.value c.in_ok-take.ensures))
 
 pub returns-in-Number : goal.returns-in-Number
 returns-in-Number c =
