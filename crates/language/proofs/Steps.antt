@@ -17,7 +17,7 @@ use Rattle.language.specs.Infer.{Checked, good, bad, then, within, succ_rule, ap
 use Rattle.language.specs.Measures.{type_room, IsType}
 use Rattle.language.specs.Judgements.{Judgement, judge, judgements, type_of, first, second}
 use Rattle.language.specs.Hypotheses.{cell_of}
-use Rattle.language.specs.Checks.{cells_of, context_of, Knows, Gives, Splits, Ready, Outcome, Checks, Ruled, Infers}
+use Rattle.language.specs.Checks.{cells_of, context_of, Knows, Gives, Splits, Ready, ReadyAs, Outcome, Checks, Ruled, Infers}
 use Rattle.language.proofs.Cells.{inside, denotes_more}
 use Rattle.language.proofs.Shapes.{blank, Shaped, shaped, Two, Lambda, Split}
 use Rattle.language.proofs.Inferring.{judged_all, occ_at, num_at, succ_at, lam_at, app_at, pair_at, split_at, split_body, iter_at}
@@ -43,6 +43,13 @@ pub record Met (subs : List Subterm) (i : ℕ) (m : Checker) (p : ℕ) (s : Shap
 
 pub met : {subs : List Subterm} {i : ℕ} {m : Checker} {s : Shape} (d : Subterm) → Ready subs i m → (get_or subs i d).shape ≡ s → Met subs i m (get_or subs i d).place s
 met {subs} {i} d r e = record { at = get_or_default subs i blank d (inside_of r) ∙ (λ k. record { place = (get_or subs i d).place; shape = e k }); ready = r }
+
+-- from what was read, with whatever default, to what a construct's function asks, and back
+pub ready_as : {subs : List Subterm} {i : ℕ} {m : Checker} {s : Shape} (d : Subterm) → Ready subs i m → (get_or subs i d).shape ≡ s → ReadyAs subs i m s
+ready_as {subs} {i} d r e = record { shape = ap (λ y. y.shape) (get_or_default subs i blank d (inside_of r)) ∙ e; ready = r }
+
+pub met_as : {subs : List Subterm} {i : ℕ} {m : Checker} {s : Shape} (d : Subterm) → ReadyAs subs i m s → Met subs i m (get_or subs i d).place s
+met_as {subs} {i} d h = met d h.ready (ap (λ y. y.shape) (sym (get_or_default subs i blank d (inside_of h.ready))) ∙ h.shape)
 
 -- a part that is checked after others
 next_part : {subs : List Subterm} {n k : ℕ} {js : List Judgement} {m₀ m m' : Checker} {r : Result ℕ Refusal} → Sofar subs n js m₀ m → Checks subs k m m' r → (b : Tree ℕ) → Denotes subs (cells_of m₀) k b → (e : Env) → Knows (cells_of m₀) m₀.number (context_of m₀) e → Outcome subs b e m m' r

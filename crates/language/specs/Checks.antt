@@ -6,6 +6,7 @@ use Rattle.syntax.specs.Trees.{Tree, erase}
 use Rattle.syntax.specs.Program.{DenotesType, Denotes}
 use Rattle.syntax.specs.declared.program.TypeCell.{TypeCell}
 use Rattle.syntax.specs.declared.program.TypeCell.TheVariants as cell
+use Rattle.syntax.specs.declared.program.Shape.{Shape}
 use Rattle.syntax.specs.declared.program.Shape.TheVariants.{Number}
 use Rattle.syntax.specs.declared.program.Subterm.{Subterm}
 use Rattle.syntax.specs.declared.refusal.Refusal.{Refusal}
@@ -80,6 +81,11 @@ pub record Ready (subs : List Subterm) (i : ℕ) (m : Checker) : Type 0 where
   pub types_room : length (cells_of m) + subterms (erase tree) ≤ type_room
   pub typing_room : length (typings_of m) + subterms (erase tree) ≤ 2048
   pub context_room : length (context_of m) + 2 * subterms (erase tree) ≤ 4096
+
+-- sub-term i has this shape, and can be checked
+pub record ReadyAs (subs : List Subterm) (i : ℕ) (m : Checker) (s : Shape) : Type 0 where
+  pub shape : (slice_index_or subs i (record { place = 0; shape = Number 0 })).shape ≡ s
+  pub ready : Ready subs i m
 
 -- at most n cells and these typings were added, and all else is as it was
 pub record Grown (n : ℕ) (new : List Typing) (m m' : Checker) : Type 0 where
